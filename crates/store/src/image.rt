@@ -25,10 +25,8 @@ impl<'a> Image<'a> {
         ensures contents { λ r. ⌜ image-bytes r ≡ now (bytes .entry) ⌝ }
         ensures condemned { λ r. ⌜ image-condemned r ≡ [] ⌝ }
     {
-        Image {
-            bytes,
-            condemned: Condemned::none(),
-        }
+        let condemned = Condemned::none();
+        Image { bytes, condemned }
     }
 
     // Marks block n dead. It is made before the store enters a pile of stores.
