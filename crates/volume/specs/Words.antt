@@ -1,0 +1,16 @@
+-- Words of 16 bits in a block, low byte first.
+use Prim.Native.Nat.{ℕ, _+_, _*_, _/_, _%_}
+use lib.ListN.{getD, set}
+use Rattle.store.specs.Stores.{Block}
+
+-- The byte at a place; past the end it is 0.
+abbrev pub byteAt : Block → ℕ → ℕ
+byteAt b at = getD b at 0
+
+-- The word whose low byte is at a place.
+abbrev pub wordAt : Block → ℕ → ℕ
+wordAt b at = byteAt b at + 256 * byteAt b (at + 1)
+
+-- A block with a word written at a place.
+abbrev pub withWord : Block → ℕ → ℕ → Block
+withWord b at w = set (set b at (w % 256)) (at + 1) (w / 256)

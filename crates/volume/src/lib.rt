@@ -1,0 +1,4 @@
+// The volume in a store: Sixth Edition layout, and whether it is sound.
+pub mod inode;
+pub mod name;
+mod words;
