@@ -1,0 +1,4 @@
+pub mod Entries
+pub mod Remainders
+pub mod Standing
+pub mod Sums

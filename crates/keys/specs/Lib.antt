@@ -1,0 +1,6 @@
+pub mod Bits
+pub mod Calls
+pub mod Field
+pub mod Keys
+pub mod Tables
+pub mod Vectors

@@ -1,0 +1,3 @@
+// Keys over the covers of a wallet: their algebra and the table of the standing ones.
+mod algebra;
+pub mod table;
