@@ -2,3 +2,4 @@ pub mod Entries
 pub mod Remainders
 pub mod Standing
 pub mod Sums
+pub mod Walks

@@ -15,3 +15,41 @@ fn product(a: u64, b: u64) -> u32
 {
     parity(a & b)
 }
+
+pub(crate) fn key_sum(keys: &[u64]) -> u64
+    ensures { λ r. ⌜ r ≡ keySum (now (keys .entry)) ⌝ }
+{
+    let mut sum = 0;
+    for key in keys {
+        sum ^= *key;
+    }
+    sum
+}
+
+// The candidate with each key taken off whose product with it is 1.
+pub(crate) fn remainder(keys: &[u64], candidate: u64) -> u64
+    ensures { λ r. ⌜ r ≡ remainder (now (keys .entry)) candidate ⌝ }
+{
+    let mut rest = candidate;
+    for key in keys {
+        if product(*key, candidate) == 1 {
+            rest ^= *key;
+        }
+    }
+    rest
+}
+
+// Whether the candidate is odd and has product 0 with each key.
+pub(crate) fn fits(keys: &[u64], candidate: u64) -> bool
+    ensures { λ r. ⌜ r ≡ fits (now (keys .entry)) candidate ⌝ }
+{
+    if parity(candidate) == 0 {
+        return false;
+    }
+    for key in keys {
+        if product(*key, candidate) == 1 {
+            return false;
+        }
+    }
+    true
+}
