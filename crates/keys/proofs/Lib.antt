@@ -2,4 +2,5 @@ pub mod Entries
 pub mod Remainders
 pub mod Standing
 pub mod Sums
+pub mod Tables
 pub mod Walks

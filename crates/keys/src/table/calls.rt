@@ -1,14 +1,118 @@
 // The calls on a key table.
+ghost use Prim.Native.Nat.{_≤_, _<_, _^_};
+ghost use mathlib.Core.Bool.{true, false};
+ghost use mathlib.Core.List.{[], _∷_, _++_};
 ghost use mathlib.Core.Path.{_≡_};
-ghost use lib.ListN.{length};
-ghost use Rattle.keys.specs.Tables.{standing};
+ghost use lib.ListN.{length, take};
+ghost use Rattle.std.specs.Results.{isOk};
+ghost use Rattle.std.specs.declared.result.Result.the-variants.{Ok};
+ghost use Rattle.keys.specs.Calls.{admitted, addCall, takeCall, discloseCall, keyOf, Leads, Says-full, Remains};
+ghost use Rattle.keys.specs.Keys.{Fits, Orthonormal};
+ghost use Rattle.keys.specs.Tables.{standing, Made};
 use super::KeyTable;
+use crate::algebra::key_sum;
+use crate::algebra::remainder;
+use store::fault::Fault;
+use store::fault::Question;
+
+const MIN_COVERS: usize = 2;
+
+const MAX_COVERS: usize = 32;
+
+const MAX_LEVELS: usize = 16;
 
 impl KeyTable {
+    // No keys yet, over that many covers.
+    pub fn new(covers: usize) -> Result<KeyTable, Fault>
+        ensures { λ r. ⌜ Made covers r ⌝ }
+    {
+        if covers < MIN_COVERS || covers > MAX_COVERS {
+            return Err(Fault::bare(Question::CoversWithinLimits));
+        }
+        Ok(KeyTable {
+            keys: [0; 16],
+            count: 0,
+            covers,
+        })
+    }
+
     // How many levels stand.
     pub fn count(&self) -> usize
-        ensures { λ r. ⌜ r ≡ length (standing (now (self .entry))) ⌝ }
+        ensures answer { λ r. ⌜ r ≡ length (standing (now (self .entry))) ⌝ }
+        ensures few { λ r. ⌜ r ≤ 16 ⌝ }
+        ensures orthonormal { λ _. ⌜ Orthonormal (standing (now (self .entry))) ⌝ }
     {
         self.count
+    }
+
+    pub fn covers(&self) -> usize
+        ensures answer { λ r. ⌜ r ≡ now (self .entry) .covers ⌝ }
+        ensures within { λ r. ⌜ 2 ≤ r ⌝ ∗ ⌜ r ≤ 32 ⌝ }
+    {
+        self.covers
+    }
+
+    // The key of a level, where that level stands.
+    pub fn key(&self, level: usize) -> Option<u64>
+        ensures { λ r. ⌜ r ≡ keyOf (standing (now (self .entry))) level ⌝ }
+    {
+        if level < self.count {
+            Some(self.keys[level])
+        } else {
+            None
+        }
+    }
+
+    fn standing(&self) -> &[u64]
+        ensures { λ r. ⌜ now r ≡ standing (now (self .entry)) ⌝ }
+    {
+        &self.keys[..self.count]
+    }
+
+    // Question 9 turned round: whether no further key can fit.
+    pub fn is_full(&self) -> bool
+        ensures { λ r. ⌜ Says-full (now (self .entry) .covers) (standing (now (self .entry))) r ⌝ }
+    {
+        key_sum(self.standing()) == (1 << self.covers) - 1
+    }
+
+    // What is left of a candidate once the standing keys are taken off that share an odd number of ones with it.
+    pub fn remainder(&self, candidate: u64) -> u64
+        ensures { λ r. ⌜ Remains (standing (now (self .entry))) candidate r ⌝ }
+    {
+        remainder(self.standing(), candidate)
+    }
+
+    // Questions 8, 9 and 10, which adding and taking a key ask first.
+    fn admit(&self, candidate: u64) -> Result<(), Fault>
+        ensures answer { λ r. ⌜ r ≡ admitted (now (self .entry) .covers) (standing (now (self .entry))) candidate ⌝ }
+        ensures room { λ r. ⌜ (isOk r ≡ true → now (self .entry) .count < 16) ⌝ }
+        ensures below { λ r. ⌜ (isOk r ≡ true → candidate < 2 ^ (now (self .entry) .covers)) ⌝ }
+    {
+        if self.count >= MAX_LEVELS {
+            return Err(Fault::bare(Question::RoomForLevel));
+        }
+        if self.is_full() {
+            return Err(Fault::bare(Question::KeySumOpen));
+        }
+        if candidate >= 1 << self.covers {
+            return Err(Fault::bare(Question::CandidateBelowLimit));
+        }
+        Ok(())
+    }
+
+    // Appends a key that is orthonormal to the standing ones, and answers its level.
+    fn append(&mut self, key: u64) -> usize
+        requires room { ⌜ now self .count < 16 ⌝ }
+        requires below { ⌜ key < 2 ^ (now self .covers) ⌝ }
+        requires fits { ⌜ Fits (standing (now self)) key ⌝ }
+        ensures answer { λ r. ⌜ r ≡ length (standing (now (self .entry))) ⌝ }
+        ensures after { λ _. ⌜ standing (now (self .exit)) ≡ standing (now (self .entry)) ++ key ∷ [] ⌝ }
+        ensures covers { λ _. ⌜ now (self .exit) .covers ≡ now (self .entry) .covers ⌝ }
+    {
+        let level = self.count;
+        self.keys[level] = key;
+        self.count = level + 1;
+        level
     }
 }
