@@ -1,17 +1,18 @@
 -- What the facts that a key table carries say of the keys that stand in it.
-use Prim.Native.Nat.{ℕ, _+_, _*_, _-_, _%_, _^_, _<_}
+use Prim.Native.Nat.{ℕ, _+_, _*_, _-_, _%_, _^_, _≤_, _<_}
 use native.Mathlib.Omega.{arith}
-use lib.Dec.{eqb, ltb}
-use lib.ListN.{length, getD, take, set, length-take}
+use lib.Dec.{eqb, leb, ltb}
+use lib.ListN.{length, getD, take, drop, set, length-take}
 use mathlib.Core.Bool.{Bool, true, false, cond}
 use mathlib.Core.List.{List, [], _∷_, _++_}
 use mathlib.Core.Path.{_≡_, refl, sym, ap, ap₂, _∙_, subst}
 use Rattle.std.proofs.shelf.Bits.{one-shl}
-use Rattle.std.proofs.shelf.Lists.{getD-take, take-more-set}
-use Rattle.std.proofs.shelf.Tests.{lt-ltb, cond-true}
+use Rattle.std.proofs.shelf.Lists.{getD-take, take-take, take-more-set}
+use Rattle.std.proofs.shelf.Tests.{le-leb, lt-ltb, cond-true}
 use Rattle.std.specs.declared.option.Option.{Option}
 use Rattle.std.specs.declared.option.Option.the-variants.{Some, None}
-use Rattle.keys.specs.Calls.{keyOf, Says-full, Remains}
+use Rattle.std.specs.declared.result.Result.the-variants.{Ok}
+use Rattle.keys.specs.Calls.{discloseAnswer, disclosed, discloseCall, keyOf, Says-full, Remains}
 use Rattle.keys.specs.Keys.{parity, remainder, full, keySum, Fits, Own, Others, Below, Orthonormal}
 use Rattle.keys.specs.Tables.{standing}
 use Rattle.keys.specs.declared.table.KeyTable.{KeyTable}
@@ -61,3 +62,12 @@ module _ (t : KeyTable) where
 
     pub below-appended : key < 2 ^ (t .covers) → Below (t .covers) (take (t .count + 1) (set (t .keys) (t .count) key))
     below-appended lt = subst (Below (t .covers)) (sym take-appended) (Below-push (standing t) key (t .covers) (t .below) lt)
+
+  -- a disclosure that is accepted
+  module _ (d : ℕ) (list : List ℕ) (levels : d ≤ t .count) (places : d ≤ length list) where
+    pub disclose-accepted : discloseAnswer d (standing t) (length list) ≡ Ok d
+    disclose-accepted =
+        cond-true (leb d (length (standing t))) _ _ (le-leb d (length (standing t)) (omega (arith, length-standing))) ∙ cond-true (leb d (length list)) _ _ (le-leb d (length list) places)
+
+    pub disclose-places : take d (t .keys) ++ drop d list ≡ discloseCall d (standing t) list .1
+    disclose-places = ap (λ ks. ks ++ drop d list) (sym (take-take d (t .count) (t .keys) levels)) ∙ sym (ap (disclosed (standing t) list) disclose-accepted)

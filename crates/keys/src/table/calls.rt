@@ -10,7 +10,9 @@ ghost use Rattle.keys.specs.Calls.{admitted, addCall, takeCall, discloseCall, 
 ghost use Rattle.keys.specs.Keys.{Fits, Orthonormal};
 ghost use Rattle.keys.specs.Tables.{standing, Made};
 use super::KeyTable;
+use crate::algebra::fits;
 use crate::algebra::key_sum;
+use crate::algebra::parity;
 use crate::algebra::remainder;
 use store::fault::Fault;
 use store::fault::Question;
@@ -114,5 +116,47 @@ impl KeyTable {
         self.keys[level] = key;
         self.count = level + 1;
         level
+    }
+
+    // Appends the remainder of a candidate, if it is odd, and answers the new level.
+    pub fn add(&mut self, candidate: u64) -> Result<usize, Fault>
+        ensures leads { λ r. ⌜ Leads (addCall (now (self .entry) .covers) (standing (now (self .entry))) candidate) (standing (now (self .exit))) r ⌝ }
+        ensures covers { λ _. ⌜ now (self .exit) .covers ≡ now (self .entry) .covers ⌝ }
+        ensures refused { λ r. ⌜ (isOk r ≡ false → now (self .exit) ≡ now (self .entry)) ⌝ }
+    {
+        self.admit(candidate)?;
+        let key = self.remainder(candidate);
+        if parity(key) == 0 {
+            return Err(Fault::bare(Question::RemainderOdd));
+        }
+        Ok(self.append(key))
+    }
+
+    // Appends a key as it is, if it is orthonormal to the standing ones, and answers the new level.
+    pub fn take(&mut self, key: u64) -> Result<usize, Fault>
+        ensures leads { λ r. ⌜ Leads (takeCall (now (self .entry) .covers) (standing (now (self .entry))) key) (standing (now (self .exit))) r ⌝ }
+        ensures covers { λ _. ⌜ now (self .exit) .covers ≡ now (self .entry) .covers ⌝ }
+        ensures refused { λ r. ⌜ (isOk r ≡ false → now (self .exit) ≡ now (self .entry)) ⌝ }
+    {
+        self.admit(key)?;
+        if !fits(self.standing(), key) {
+            return Err(Fault::bare(Question::KeyOrthonormal));
+        }
+        Ok(self.append(key))
+    }
+
+    // Writes the keys of the first d levels into the first d places of a list, and answers d.
+    pub fn disclose(&self, d: usize, list: &mut [u64]) -> Result<usize, Fault>
+        ensures answer { λ r. ⌜ r ≡ discloseCall d (standing (now (self .entry))) (now (list .entry)) .0 ⌝ }
+        ensures places { λ _. ⌜ now (list .exit) ≡ discloseCall d (standing (now (self .entry))) (now (list .entry)) .1 ⌝ }
+    {
+        if d > self.count {
+            return Err(Fault::bare(Question::EnoughLevels));
+        }
+        if d > list.len() {
+            return Err(Fault::bare(Question::EnoughPlaces));
+        }
+        list[..d].copy_from_slice(&self.keys[..d]);
+        Ok(d)
     }
 }
