@@ -4,3 +4,4 @@ pub mod Standing
 pub mod Sums
 pub mod Tables
 pub mod Walks
+pub mod WorkedCases

@@ -4,3 +4,4 @@ pub mod Field
 pub mod Keys
 pub mod Tables
 pub mod Vectors
+pub mod Worked

@@ -1,3 +1,4 @@
 // Keys over the covers of a wallet: their algebra and the table of the standing ones.
 mod algebra;
 pub mod table;
+pub mod worked;
