@@ -6,7 +6,6 @@ use lib.ListN.{length, getD, take, drop, set, length-take}
 use mathlib.Core.Bool.{Bool, true, false, cond}
 use mathlib.Core.List.{List, [], _∷_, _++_}
 use mathlib.Core.Path.{_≡_, refl, sym, ap, ap₂, _∙_, subst}
-use Rattle.std.proofs.shelf.Bits.{one-shl}
 use Rattle.std.proofs.shelf.Lists.{getD-take, take-take, take-more-set}
 use Rattle.std.proofs.shelf.Tests.{le-leb, lt-ltb, cond-true}
 use Rattle.std.specs.declared.option.Option.{Option}
@@ -29,10 +28,6 @@ module _ (t : KeyTable) where
   key-standing level lt =
       ap Some (sym (getD-take (t .count) (t .keys) level 0 lt)) ∙
       sym (cond-true (ltb level (length (standing t))) (Some (getD (standing t) level 0)) None (lt-ltb level (length (standing t)) (omega (arith, length-standing))))
-
-  -- the limit of keys, as it is calculated in 64 bits
-  pub limit-is : (1 * 2 ^ (t .covers)) % 2 ^ 64 ≡ 2 ^ (t .covers)
-  limit-is = one-shl (t .covers) 64 (omega (arith, t .most))
 
   pub says-full : (r : Bool) → r ≡ full (t .covers) (standing t) → Says-full (t .covers) (standing t) r
   says-full r e = record {

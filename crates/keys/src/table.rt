@@ -5,6 +5,7 @@ ghost use mathlib.Core.Path.{_≡_};
 ghost use Rattle.keys.specs.Keys.{Own, Others, Below};
 
 mod calls;
+mod reads;
 
 // The first `count` keys stand, in the order of their levels, and are orthonormal.
 #[derive(Clone, Copy, Drop)]

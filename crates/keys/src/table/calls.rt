@@ -1,13 +1,12 @@
-// The calls on a key table.
-ghost use Prim.Native.Nat.{_≤_, _<_, _^_};
+// The making of a key table, and the calls that bring a key.
+ghost use Prim.Native.Nat.{_<_, _^_};
 ghost use mathlib.Core.Bool.{true, false};
 ghost use mathlib.Core.List.{[], _∷_, _++_};
 ghost use mathlib.Core.Path.{_≡_};
-ghost use lib.ListN.{length, take};
+ghost use lib.ListN.{length};
 ghost use Rattle.std.specs.Results.{isOk};
-ghost use Rattle.std.specs.declared.result.Result.the-variants.{Ok};
-ghost use Rattle.keys.specs.Calls.{admitted, addCall, takeCall, discloseCall, keyOf, Leads, Says-full, Remains};
-ghost use Rattle.keys.specs.Keys.{Fits, Orthonormal};
+ghost use Rattle.keys.specs.Calls.{admitted, addCall, takeCall, Leads, Says-full, Remains};
+ghost use Rattle.keys.specs.Keys.{Fits};
 ghost use Rattle.keys.specs.Tables.{standing, Made};
 use super::KeyTable;
 use crate::algebra::fits;
@@ -38,44 +37,18 @@ impl KeyTable {
         })
     }
 
-    // How many levels stand.
-    pub fn count(&self) -> usize
-        ensures answer { λ r. ⌜ r ≡ length (standing (now (self .entry))) ⌝ }
-        ensures few { λ r. ⌜ r ≤ 16 ⌝ }
-        ensures orthonormal { λ _. ⌜ Orthonormal (standing (now (self .entry))) ⌝ }
+    // The least number that names a cover which is not there.
+    fn limit(&self) -> u64
+        ensures { λ r. ⌜ r ≡ 2 ^ (now (self .entry) .covers) ⌝ }
     {
-        self.count
-    }
-
-    pub fn covers(&self) -> usize
-        ensures answer { λ r. ⌜ r ≡ now (self .entry) .covers ⌝ }
-        ensures within { λ r. ⌜ 2 ≤ r ⌝ ∗ ⌜ r ≤ 32 ⌝ }
-    {
-        self.covers
-    }
-
-    // The key of a level, where that level stands.
-    pub fn key(&self, level: usize) -> Option<u64>
-        ensures { λ r. ⌜ r ≡ keyOf (standing (now (self .entry))) level ⌝ }
-    {
-        if level < self.count {
-            Some(self.keys[level])
-        } else {
-            None
-        }
-    }
-
-    fn standing(&self) -> &[u64]
-        ensures { λ r. ⌜ now r ≡ standing (now (self .entry)) ⌝ }
-    {
-        &self.keys[..self.count]
+        1 << self.covers
     }
 
     // Question 9 turned round: whether no further key can fit.
     pub fn is_full(&self) -> bool
         ensures { λ r. ⌜ Says-full (now (self .entry) .covers) (standing (now (self .entry))) r ⌝ }
     {
-        key_sum(self.standing()) == (1 << self.covers) - 1
+        key_sum(self.standing()) == self.limit() - 1
     }
 
     // What is left of a candidate once the standing keys are taken off that share an odd number of ones with it.
@@ -97,7 +70,7 @@ impl KeyTable {
         if self.is_full() {
             return Err(Fault::bare(Question::KeySumOpen));
         }
-        if candidate >= 1 << self.covers {
+        if candidate >= self.limit() {
             return Err(Fault::bare(Question::CandidateBelowLimit));
         }
         Ok(())
@@ -143,20 +116,5 @@ impl KeyTable {
             return Err(Fault::bare(Question::KeyOrthonormal));
         }
         Ok(self.append(key))
-    }
-
-    // Writes the keys of the first d levels into the first d places of a list, and answers d.
-    pub fn disclose(&self, d: usize, list: &mut [u64]) -> Result<usize, Fault>
-        ensures answer { λ r. ⌜ r ≡ discloseCall d (standing (now (self .entry))) (now (list .entry)) .0 ⌝ }
-        ensures places { λ _. ⌜ now (list .exit) ≡ discloseCall d (standing (now (self .entry))) (now (list .entry)) .1 ⌝ }
-    {
-        if d > self.count {
-            return Err(Fault::bare(Question::EnoughLevels));
-        }
-        if d > list.len() {
-            return Err(Fault::bare(Question::EnoughPlaces));
-        }
-        list[..d].copy_from_slice(&self.keys[..d]);
-        Ok(d)
     }
 }
