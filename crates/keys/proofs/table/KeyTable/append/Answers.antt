@@ -1,5 +1,5 @@
 -- One key more keeps what the table carries.
-use mathlib.Core.Path.{refl, sym}
+use mathlib.Core.Path.{refl, sym, _∙_}
 use native.Mathlib.Omega.{arith}
 use Rattle.std.proofs.shelf.Lists.{length-set}
 use Rattle.keys.proofs.Tables.{length-standing, take-appended, own-appended, others-appended, below-appended}
@@ -9,7 +9,7 @@ pub ghost-self : need.ghost-self
 ghost-self c =
     let t = c .args .self .now in
     let key = c .args .key in (
-      omega (arith, length-set (t .keys) (t .count) key, t .places),
+      length-set (t .keys) (t .count) _ ∙ t .places,
       (
         omega (arith, c .pre .room),
         (
