@@ -5,9 +5,10 @@ use lib.Dec.{eqb}
 use mathlib.Core.Path.{_≡_, refl, sym, ap, ap₂, _∙_}
 use mathlib.Core.Logic.{_⊎_, inl, inr, ⊎-elim}
 use Rattle.std.proofs.shelf.Tests.{eq-eqb, ne-eqb, cond-true, cond-false}
+use Rattle.keys.specs.Algebra.{Key-algebra}
 use Rattle.keys.specs.Field.{Field}
 use Rattle.keys.specs.Vectors.{sum, dot, unit, Orthonormal-vectors, Fits-vectors, left-over, Closed}
-use Rattle.keys.proofs.Sums.{zero-add, one-mul, mul-zero, add-cancel, same-from-sum, one-from-square, sum-same, sum-none, sum-single, sum-add, sum-mul, sum-swap, sum-square, dot-comm, dot-add, dot-mul, dot-sum}
+use Rattle.keys.proofs.Sums.{one-mul, mul-zero, same-from-sum, one-from-square, sum-same, sum-none, sum-single, sum-add, sum-mul, sum-swap, sum-square, dot-comm, dot-add, dot-mul, dot-sum}
 
 module _ {F : Type 0} (f : Field F) where
   -- the product of a vector with itself is the square of the sum of its entries
@@ -107,3 +108,14 @@ module _ {F : Type 0} (f : Field F) where
           ⊎-elim inl
           (λ place. inr (_, divided-fits (unit f (place .0)) (unit-left-over (place .0) (place .1) (place .2))))
           (ones-or-place k (λ p. sum f n (λ j. us j p)))
+
+-- all of it, over any such field
+pub key-algebra : {F : Type 0} (f : Field F) → Key-algebra f
+key-algebra f = record {
+  own-product = dot-self f;
+  orthogonal = left-over-orthogonal f;
+  fits = left-over-fits f;
+  divided = divided-fits f;
+  none = closed-none f;
+  some = λ k n us orthonormal not-closed. ⊎-elim (λ closed. absurd (not-closed closed)) (λ found. found) (closed-or-fits f k n us orthonormal);
+}

@@ -1,7 +1,7 @@
 -- Laws of orthonormal keys as numbers, from those of vectors over the field of bits.
 use Prim.Native.Nat.{ℕ, zero, suc, _+_, _-_, _%_, _^_, _<_}
 use native.Mathlib.Omega.{arith}
-use lib.Bits.{bitAnd, bitXor, and-comm, and-self, xor-lt}
+use lib.Bits.{bitXor, and-comm, and-self, xor-lt}
 use lib.Dec.{eqb}
 use lib.ListN.{length, getD}
 use lib.Pow.{pow-pos, ones-lt}
@@ -10,8 +10,9 @@ use mathlib.Core.List.{List, [], _∷_, _++_}
 use mathlib.Core.Logic.{_⊎_, inl, inr, ⊎-elim}
 use mathlib.Core.Path.{_≡_, refl, sym, ap, ap₂, _∙_}
 use Rattle.std.proofs.shelf.Lists.{length-push, getD-push, getD-append-left}
-use Rattle.std.proofs.shelf.Tests.{eqb-true, eqb-false, eq-eqb, ne-eqb, cases-bool, cases-eq, cond-both, and-parts, and-from, true≢false}
+use Rattle.std.proofs.shelf.Tests.{eqb-true, eqb-false, eq-eqb, cases-eq, cond-both, and-parts, and-from}
 use Rattle.keys.specs.Bits.{either, bits, entry}
+use Rattle.keys.specs.Calls.{Says-fits}
 use Rattle.keys.specs.Keys.{parity, product, reduced, remainder, keySum, full, orthogonal, fits, Fits, Own, Others, Below, Orthonormal}
 use Rattle.keys.specs.Vectors.{sum, dot, left-over, Orthonormal-vectors, Fits-vectors, Closed}
 use Rattle.keys.proofs.Entries.{product-dot, entry-reduced, entry-keySum, entry-ones, same-from-entries, number, number-below, entry-number}
@@ -122,7 +123,7 @@ orthogonal-all [] v e i lt = absurd (omega arith)
 orthogonal-all (u ∷ us) v e zero lt = eqb-true (product u v) 0 (and-parts (eqb (product u v) 0) (orthogonal us v) e .0)
 orthogonal-all (u ∷ us) v e (suc i) lt = orthogonal-all us v (and-parts (eqb (product u v) 0) (orthogonal us v) e .1) i (omega arith)
 
-pub fits-true : (keys : List ℕ) (v : ℕ) → fits keys v ≡ true → Fits keys v
+fits-true : (keys : List ℕ) (v : ℕ) → fits keys v ≡ true → Fits keys v
 fits-true keys v e =
     let both = and-parts (eqb (parity v) 1) (orthogonal keys v) e in
     record { own = product-self v ∙ eqb-true (parity v) 1 (both .0); others = orthogonal-all keys v (both .1) }
@@ -131,8 +132,11 @@ all-orthogonal : (keys : List ℕ) (v : ℕ) → ((i : ℕ) → i < length keys 
 all-orthogonal [] v h = refl
 all-orthogonal (u ∷ us) v h = and-from (eqb (product u v) 0) (orthogonal us v) (eq-eqb (product u v) 0 (h 0 (omega arith))) (all-orthogonal us v (λ i lt. h (suc i) (omega arith)))
 
-pub true-fits : (keys : List ℕ) (v : ℕ) → Fits keys v → fits keys v ≡ true
+true-fits : (keys : List ℕ) (v : ℕ) → Fits keys v → fits keys v ≡ true
 true-fits keys v h = and-from (eqb (parity v) 1) (orthogonal keys v) (eq-eqb (parity v) 1 (fits-odd keys v h)) (all-orthogonal keys v (h .others))
+
+pub says-fits : (keys : List ℕ) (v : ℕ) (r : Bool) → r ≡ fits keys v → Says-fits keys v r
+says-fits keys v r e = record { answer = e; decides = (λ yes′. fits-true keys v (sym e ∙ yes′), λ h. e ∙ true-fits keys v h) }
 
 -- one key more
 module _ (keys : List ℕ) (v : ℕ) where

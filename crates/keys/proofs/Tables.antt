@@ -1,18 +1,17 @@
 -- What the facts that a key table carries say of the keys that stand in it.
-use Prim.Native.Nat.{ℕ, _+_, _*_, _-_, _%_, _^_, _≤_, _<_}
+use Prim.Native.Nat.{ℕ, _+_, _^_, _≤_, _<_}
 use native.Mathlib.Omega.{arith}
-use lib.Dec.{eqb, leb, ltb}
+use lib.Dec.{leb, ltb}
 use lib.ListN.{length, getD, take, drop, set, length-take}
-use mathlib.Core.Bool.{Bool, true, false, cond}
+use mathlib.Core.Bool.{Bool}
 use mathlib.Core.List.{List, [], _∷_, _++_}
-use mathlib.Core.Path.{_≡_, refl, sym, ap, ap₂, _∙_, subst}
+use mathlib.Core.Path.{_≡_, sym, ap, _∙_, subst}
 use Rattle.std.proofs.shelf.Lists.{getD-take, take-take, take-more-set}
 use Rattle.std.proofs.shelf.Tests.{le-leb, lt-ltb, cond-true}
-use Rattle.std.specs.declared.option.Option.{Option}
 use Rattle.std.specs.declared.option.Option.the-variants.{Some, None}
 use Rattle.std.specs.declared.result.Result.the-variants.{Ok}
 use Rattle.keys.specs.Calls.{discloseAnswer, disclosed, discloseCall, keyOf, Says-full, Remains}
-use Rattle.keys.specs.Keys.{parity, remainder, full, keySum, Fits, Own, Others, Below, Orthonormal}
+use Rattle.keys.specs.Keys.{parity, remainder, full, Fits, Own, Others, Below, Orthonormal}
 use Rattle.keys.specs.Tables.{standing}
 use Rattle.keys.specs.declared.table.KeyTable.{KeyTable}
 use Rattle.keys.proofs.Standing.{full-none, open-some, odd-fits, fits-odd, Own-push, Others-push, Below-push}

@@ -1,10 +1,11 @@
 -- What the calls on standing keys answer and leave: k covers, the keys in the order of their levels, the argument.
-use Prim.Native.Nat.{ℕ, _^_, _≤_, _<_}
+use Prim.Native.Nat.{ℕ, _^_, _<_}
 use lib.Dec.{eqb, leb, ltb}
 use lib.ListN.{length, getD, take, drop}
 use mathlib.Core.Bool.{Bool, true, false, cond, _&&_}
 use mathlib.Core.List.{List, [], _∷_, _++_}
 use mathlib.Core.Path.{_≡_}
+use Rattle.std.specs.Orderings.{Decides}
 use Rattle.std.specs.declared.option.Option.{Option}
 use Rattle.std.specs.declared.option.Option.the-variants.{Some, None}
 use Rattle.std.specs.declared.result.Result.{Result}
@@ -77,6 +78,11 @@ pub record Leads (call : Result ℕ Fault × List ℕ) (after : List ℕ) (r : R
   pub answer : r ≡ call .0
   pub standing : after ≡ call .1
   pub orthonormal : Orthonormal after
+
+-- Question 12's test says whether v is orthonormal to the keys.
+pub record Says-fits (keys : List ℕ) (v : ℕ) (r : Bool) : Type 0 where
+  pub answer : r ≡ fits keys v
+  pub decides : Decides r (Fits keys v)
 
 -- The keys sum to the key of all covers exactly when no number below 2 ^ k is orthonormal to all of them.
 pub record Says-full (k : ℕ) (keys : List ℕ) (r : Bool) : Type 0 where

@@ -1,3 +1,4 @@
+pub mod Algebra
 pub mod Bits
 pub mod Calls
 pub mod Field

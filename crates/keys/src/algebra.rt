@@ -1,6 +1,7 @@
 // Calculations with keys, each a number whose bits name covers.
 ghost use mathlib.Core.Path.{_≡_};
-ghost use Rattle.keys.specs.Keys.{parity, product, remainder, keySum, fits};
+ghost use Rattle.keys.specs.Calls.{Says-fits};
+ghost use Rattle.keys.specs.Keys.{parity, product, remainder, keySum};
 
 // 1 for an odd number of ones, else 0.
 pub(crate) fn parity(n: u64) -> u32
@@ -39,9 +40,9 @@ pub(crate) fn remainder(keys: &[u64], candidate: u64) -> u64
     rest
 }
 
-// Whether the candidate is odd and has product 0 with each key.
+// Whether the candidate is orthonormal to the keys: odd, and with product 0 with each.
 pub(crate) fn fits(keys: &[u64], candidate: u64) -> bool
-    ensures { λ r. ⌜ r ≡ fits (now (keys .entry)) candidate ⌝ }
+    ensures { λ r. ⌜ Says-fits (now (keys .entry)) candidate r ⌝ }
 {
     if parity(candidate) == 0 {
         return false;

@@ -1,16 +1,25 @@
--- A key that shares an odd number of ones with the candidate, one that does not, and the end of the keys.
+-- An even candidate, a key that shares an odd number of ones with the candidate, one that does not, and the end of the keys.
 use mathlib.Core.Path.{sym, _∙_}
+use mathlib.Core.Bool.{true, false}
 use native.Mathlib.Omega.{arith}
 use Rattle.std.proofs.shelf.Lists.{at-drop-all}
 use Rattle.keys.specs.Keys.{orthogonal}
-use Rattle.keys.proofs.Walks.{odd-orthogonal, orthogonal-here, orthogonal-on}
+use Rattle.keys.proofs.Standing.{says-fits}
+use Rattle.keys.proofs.Walks.{even-fits, odd-orthogonal, orthogonal-here, orthogonal-on}
 use Rattle.keys.proofs.algebra.fits.Needs as need
+
+pub returns-then-parity-eq0 : need.returns-then-parity-eq0
+returns-then-parity-eq0 c =
+    let v = c .args .candidate in
+    let xs = c .args .keys .now in
+    says-fits xs v false (sym (even-fits xs v (sym (c .parity .ensures) ∙ c .if-parity-eq0 .taken)))
 
 pub returns-then-product-eq1 : need.returns-then-product-eq1
 returns-then-product-eq1 c =
     let v = c .args .candidate in
     let xs = c .args .keys .now in
-    sym (odd-orthogonal xs v (λ e. c .if-parity-eq0 .left (c .parity .ensures ∙ e)) ∙ sym (c .loop-key .inv) ∙ orthogonal-here v xs (c .loop-key .key-index) (omega arith) (sym (c .product .ensures) ∙ c .if-product-eq1 .taken))
+    says-fits xs v false
+    (sym (odd-orthogonal xs v (λ e. c .if-parity-eq0 .left (c .parity .ensures ∙ e)) ∙ sym (c .loop-key .inv) ∙ orthogonal-here v xs (c .loop-key .key-index) (omega arith) (sym (c .product .ensures) ∙ c .if-product-eq1 .taken)))
 
 pub loop-key-again : need.loop-key-again
 loop-key-again c =
@@ -20,4 +29,5 @@ pub returns : need.returns
 returns c =
     let v = c .args .candidate in
     let xs = c .args .keys .now in
-    sym (odd-orthogonal xs v (λ e. c .if-parity-eq0 .left (c .parity .ensures ∙ e)) ∙ sym (c .loop-key .inv) ∙ at-drop-all (λ us. orthogonal us v) xs (c .loop-key .key-index) (omega arith))
+    says-fits xs v true
+    (sym (odd-orthogonal xs v (λ e. c .if-parity-eq0 .left (c .parity .ensures ∙ e)) ∙ sym (c .loop-key .inv) ∙ at-drop-all (λ us. orthogonal us v) xs (c .loop-key .key-index) (omega arith)))

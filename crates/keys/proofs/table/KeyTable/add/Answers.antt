@@ -1,9 +1,7 @@
 -- An odd remainder may be appended.
-use mathlib.Core.Path.{_≡_, refl, sym, _∙_, subst}
-use Prim.Native.Nat.{ℕ, _^_, _<_}
+use mathlib.Core.Path.{refl}
 use native.Mathlib.Omega.{arith}
 use Rattle.keys.proofs.Standing.{remainder-below}
-use Rattle.keys.proofs.Tables.{orthonormal-standing}
 use Rattle.keys.specs.Tables.{standing}
 use Rattle.keys.proofs.table.KeyTable.add.Needs as need
 

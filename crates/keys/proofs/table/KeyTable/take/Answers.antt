@@ -1,8 +1,6 @@
 -- A key that passed the test may be appended.
-use mathlib.Core.Path.{refl, sym, ap, _∙_}
-use Rattle.keys.specs.Keys.{fits}
-use Rattle.keys.specs.Tables.{standing}
-use Rattle.keys.proofs.Standing.{fits-true}
+use mathlib.Core.Path.{refl, subst}
+use Rattle.keys.specs.Keys.{Fits}
 use Rattle.keys.proofs.table.KeyTable.take.Needs as need
 
 pub append-requires : need.append-requires
@@ -11,5 +9,5 @@ append-requires c κs =
     record {
       room = c .in-Continue-admit .ensures tt .room refl;
       below = c .in-Continue-admit .ensures tt .below refl;
-      fits = fits-true (standing (c .args .self .now)) key (ap (λ ks. fits ks key) (sym (c .standing .ensures)) ∙ sym (c .fits-2 .ensures) ∙ c .if-not-fits .left);
+      fits = subst (λ ks. Fits ks key) (c .standing .ensures) (c .fits-2 .ensures .decides .0 (c .if-not-fits .left));
     }
