@@ -1,4 +1,5 @@
 pub mod Entries
+pub mod Keeping
 pub mod Remainders
 pub mod Standing
 pub mod Sums

@@ -123,7 +123,7 @@ orthogonal-all [] v e i lt = absurd (omega arith)
 orthogonal-all (u ∷ us) v e zero lt = eqb-true (product u v) 0 (and-parts (eqb (product u v) 0) (orthogonal us v) e .0)
 orthogonal-all (u ∷ us) v e (suc i) lt = orthogonal-all us v (and-parts (eqb (product u v) 0) (orthogonal us v) e .1) i (omega arith)
 
-fits-true : (keys : List ℕ) (v : ℕ) → fits keys v ≡ true → Fits keys v
+pub fits-true : (keys : List ℕ) (v : ℕ) → fits keys v ≡ true → Fits keys v
 fits-true keys v e =
     let both = and-parts (eqb (parity v) 1) (orthogonal keys v) e in
     record { own = product-self v ∙ eqb-true (parity v) 1 (both .0); others = orthogonal-all keys v (both .1) }

@@ -11,8 +11,8 @@ use Rattle.std.proofs.shelf.Tests.{le-leb, lt-ltb, cond-true}
 use Rattle.std.specs.declared.option.Option.the-variants.{Some, None}
 use Rattle.std.specs.declared.result.Result.the-variants.{Ok}
 use Rattle.keys.specs.Calls.{discloseAnswer, disclosed, discloseCall, keyOf, Says-full, Remains}
-use Rattle.keys.specs.Keys.{parity, remainder, full, Fits, Own, Others, Below, Orthonormal}
-use Rattle.keys.specs.Tables.{standing}
+use Rattle.keys.specs.Keys.{parity, remainder, full, Fits, Own, Others, Below, Orthonormal, Sound}
+use Rattle.keys.specs.Tables.{standing, coversOf}
 use Rattle.keys.specs.declared.table.KeyTable.{KeyTable}
 use Rattle.keys.proofs.Standing.{full-none, open-some, odd-fits, fits-odd, Own-push, Others-push, Below-push}
 
@@ -22,6 +22,9 @@ module _ (t : KeyTable) where
 
   pub orthonormal-standing : Orthonormal (standing t)
   orthonormal-standing = record { own = t .own; others = t .others }
+
+  pub sound-standing : Sound (coversOf t) (standing t)
+  sound-standing = record { few = omega (arith, length-standing, t .few); orthonormal = orthonormal-standing; below = t .below }
 
   pub key-standing : (level : ℕ) → level < t .count → Some (getD (t .keys) level 0) ≡ keyOf (standing t) level
   key-standing level lt =

@@ -1,5 +1,5 @@
 -- Keys as numbers: their product, the remainder of a candidate, their sum, and when they are orthonormal.
-use Prim.Native.Nat.{ℕ, _-_, _%_, _^_, _<_}
+use Prim.Native.Nat.{ℕ, _-_, _%_, _^_, _≤_, _<_}
 use lib.Bits.{bitAnd, bitXor}
 use lib.Count.{ones}
 use lib.Dec.{eqb}
@@ -62,3 +62,9 @@ Below k keys = (i : ℕ) → i < length keys → getD keys i 0 < 2 ^ k
 pub record Orthonormal (keys : List ℕ) : Type 0 where
   pub own : Own keys
   pub others : Others keys
+
+-- What always holds of the keys that stand over k covers.
+pub record Sound (k : ℕ) (keys : List ℕ) : Type 0 where
+  pub few : length keys ≤ 16
+  pub orthonormal : Orthonormal keys
+  pub below : Below k keys

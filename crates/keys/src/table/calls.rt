@@ -7,7 +7,7 @@ ghost use lib.ListN.{length};
 ghost use Rattle.std.specs.Results.{isOk};
 ghost use Rattle.keys.specs.Calls.{admitted, addCall, takeCall, Leads, Says-full, Remains};
 ghost use Rattle.keys.specs.Keys.{Fits};
-ghost use Rattle.keys.specs.Tables.{standing, Made};
+ghost use Rattle.keys.specs.Tables.{standing, coversOf, Made};
 use super::KeyTable;
 use crate::algebra::fits;
 use crate::algebra::key_sum;
@@ -39,14 +39,14 @@ impl KeyTable {
 
     // The least number that names a cover which is not there.
     fn limit(&self) -> u64
-        ensures { λ r. ⌜ r ≡ 2 ^ (now (self .entry) .covers) ⌝ }
+        ensures { λ r. ⌜ r ≡ 2 ^ (coversOf (now (self .entry))) ⌝ }
     {
         1 << self.covers
     }
 
     // Question 9 turned round: whether no further key can fit.
     pub fn is_full(&self) -> bool
-        ensures { λ r. ⌜ Says-full (now (self .entry) .covers) (standing (now (self .entry))) r ⌝ }
+        ensures { λ r. ⌜ Says-full (coversOf (now (self .entry))) (standing (now (self .entry))) r ⌝ }
     {
         key_sum(self.standing()) == self.limit() - 1
     }
@@ -60,9 +60,9 @@ impl KeyTable {
 
     // Questions 8, 9 and 10, which adding and taking a key ask first.
     fn admit(&self, candidate: u64) -> Result<(), Fault>
-        ensures answer { λ r. ⌜ r ≡ admitted (now (self .entry) .covers) (standing (now (self .entry))) candidate ⌝ }
+        ensures answer { λ r. ⌜ r ≡ admitted (coversOf (now (self .entry))) (standing (now (self .entry))) candidate ⌝ }
         ensures room { λ r. ⌜ (isOk r ≡ true → now (self .entry) .count < 16) ⌝ }
-        ensures below { λ r. ⌜ (isOk r ≡ true → candidate < 2 ^ (now (self .entry) .covers)) ⌝ }
+        ensures below { λ r. ⌜ (isOk r ≡ true → candidate < 2 ^ (coversOf (now (self .entry)))) ⌝ }
     {
         if self.count >= MAX_LEVELS {
             return Err(Fault::bare(Question::RoomForLevel));
@@ -79,11 +79,11 @@ impl KeyTable {
     // Appends a key that is orthonormal to the standing ones, and answers its level.
     fn append(&mut self, key: u64) -> usize
         requires room { ⌜ now self .count < 16 ⌝ }
-        requires below { ⌜ key < 2 ^ (now self .covers) ⌝ }
+        requires below { ⌜ key < 2 ^ (coversOf (now self)) ⌝ }
         requires fits { ⌜ Fits (standing (now self)) key ⌝ }
         ensures answer { λ r. ⌜ r ≡ length (standing (now (self .entry))) ⌝ }
         ensures after { λ _. ⌜ standing (now (self .exit)) ≡ standing (now (self .entry)) ++ key ∷ [] ⌝ }
-        ensures covers { λ _. ⌜ now (self .exit) .covers ≡ now (self .entry) .covers ⌝ }
+        ensures covers { λ _. ⌜ coversOf (now (self .exit)) ≡ coversOf (now (self .entry)) ⌝ }
     {
         let level = self.count;
         self.keys[level] = key;
@@ -93,8 +93,8 @@ impl KeyTable {
 
     // Appends the remainder of a candidate, if it is odd, and answers the new level.
     pub fn add(&mut self, candidate: u64) -> Result<usize, Fault>
-        ensures leads { λ r. ⌜ Leads (addCall (now (self .entry) .covers) (standing (now (self .entry))) candidate) (standing (now (self .exit))) r ⌝ }
-        ensures covers { λ _. ⌜ now (self .exit) .covers ≡ now (self .entry) .covers ⌝ }
+        ensures leads { λ r. ⌜ Leads (addCall (coversOf (now (self .entry))) (standing (now (self .entry))) candidate) (standing (now (self .exit))) r ⌝ }
+        ensures covers { λ _. ⌜ coversOf (now (self .exit)) ≡ coversOf (now (self .entry)) ⌝ }
         ensures refused { λ r. ⌜ (isOk r ≡ false → now (self .exit) ≡ now (self .entry)) ⌝ }
     {
         self.admit(candidate)?;
@@ -107,8 +107,8 @@ impl KeyTable {
 
     // Appends a key as it is, if it is orthonormal to the standing ones, and answers the new level.
     pub fn take(&mut self, key: u64) -> Result<usize, Fault>
-        ensures leads { λ r. ⌜ Leads (takeCall (now (self .entry) .covers) (standing (now (self .entry))) key) (standing (now (self .exit))) r ⌝ }
-        ensures covers { λ _. ⌜ now (self .exit) .covers ≡ now (self .entry) .covers ⌝ }
+        ensures leads { λ r. ⌜ Leads (takeCall (coversOf (now (self .entry))) (standing (now (self .entry))) key) (standing (now (self .exit))) r ⌝ }
+        ensures covers { λ _. ⌜ coversOf (now (self .exit)) ≡ coversOf (now (self .entry)) ⌝ }
         ensures refused { λ r. ⌜ (isOk r ≡ false → now (self .exit) ≡ now (self .entry)) ⌝ }
     {
         self.admit(key)?;

@@ -3,8 +3,8 @@ ghost use Prim.Native.Nat.{_≤_};
 ghost use mathlib.Core.Path.{_≡_};
 ghost use lib.ListN.{length};
 ghost use Rattle.keys.specs.Calls.{discloseCall, keyOf};
-ghost use Rattle.keys.specs.Keys.{Orthonormal};
-ghost use Rattle.keys.specs.Tables.{standing};
+ghost use Rattle.keys.specs.Keys.{Sound};
+ghost use Rattle.keys.specs.Tables.{standing, coversOf};
 use super::KeyTable;
 use store::fault::Fault;
 use store::fault::Question;
@@ -20,14 +20,13 @@ impl KeyTable {
     // How many levels stand.
     pub fn count(&self) -> usize
         ensures answer { λ r. ⌜ r ≡ length (standing (now (self .entry))) ⌝ }
-        ensures few { λ r. ⌜ r ≤ 16 ⌝ }
-        ensures orthonormal { λ _. ⌜ Orthonormal (standing (now (self .entry))) ⌝ }
+        ensures sound { λ _. ⌜ Sound (coversOf (now (self .entry))) (standing (now (self .entry))) ⌝ }
     {
         self.standing().len()
     }
 
     pub fn covers(&self) -> usize
-        ensures answer { λ r. ⌜ r ≡ now (self .entry) .covers ⌝ }
+        ensures answer { λ r. ⌜ r ≡ coversOf (now (self .entry)) ⌝ }
         ensures within { λ r. ⌜ 2 ≤ r ⌝ ∗ ⌜ r ≤ 32 ⌝ }
     {
         self.covers
