@@ -1,4 +1,5 @@
 // Edges, refusals and worked cases, each compared with the value that the rules give.
+mod key_tables;
 mod sentences;
 mod stores;
 mod tally;
@@ -11,7 +12,8 @@ fn main(rt: LibcRuntime) -> Result<(), AnyError> {
 }
 
 fn run(rt: &LibcRuntime) -> Result<(), AnyError> {
-    let right = stores::all(rt)?;
+    let mut right = stores::all(rt)?;
+    right &= key_tables::all(rt)?;
     sentences::show_all(rt)?;
     if right {
         Ok(())

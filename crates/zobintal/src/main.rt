@@ -1,9 +1,11 @@
-// Lays a price list into a stripe of two stores, past a dead block, and reads it back.
+// Lays a price list into a stripe of two stores, past a dead block, and reads it back; then opens levels by their keys.
 mod filing;
+mod opening;
 mod price_list;
 
 use filing::lay;
 use filing::read_back;
+use opening::open_levels;
 use price_list::PRICE_LIST;
 use std::error::AnyError;
 use store::fault::FaultDisplay;
@@ -45,7 +47,9 @@ fn run(rt: &LibcRuntime) -> Result<(), AnyError> {
     if let Err(fault) = all_live(&stripe) {
         println!(rt, "Asked whether it is live throughout: {fault}.")?;
     }
-    keep_list(rt, &mut stripe)
+    keep_list(rt, &mut stripe)?;
+    println!(rt)?;
+    open_levels(rt)
 }
 
 // Lays the price list into the store, reads it back, compares and prints it.
