@@ -1,1 +1,2 @@
+pub mod Everys
 pub mod Scans

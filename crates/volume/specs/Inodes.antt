@@ -4,12 +4,8 @@ use lib.ListN.{getD, set, take, drop}
 use mathlib.Core.List.{List, [], _∷_, _++_, map}
 use Rattle.std.specs.Iters.{counting}
 use Rattle.store.specs.Stores.{Block}
-use Rattle.volume.specs.Words.{byteAt, wordAt}
+use Rattle.volume.specs.Words.{byteAt, wordAt, wordsAt}
 use Rattle.volume.specs.declared.inode.Inode.{Inode}
-
--- The eight words from a place on.
-unfoldable pub addressesAt : Block → ℕ → List ℕ
-addressesAt b at = map (λ j. wordAt b (at + 2 * j)) (counting 0 8)
 
 -- The record that begins at a byte of a block: mode, link count, user, group, the size with its high byte before its
 -- low word, eight addresses, and two times that nothing here reads.
@@ -20,7 +16,7 @@ inodeAt b at = record {
   user = byteAt b (at + 3);
   group = byteAt b (at + 4);
   size = 65536 * byteAt b (at + 5) + wordAt b (at + 6);
-  addresses = addressesAt b (at + 8);
+  addresses = wordsAt 8 b (at + 8);
   times = take 8 (drop (at + 24) b);
 }
 

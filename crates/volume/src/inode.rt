@@ -1,17 +1,15 @@
 // An inode record: 32 bytes of the inode list.
-ghost use Prim.Native.Nat.{_+_, _<_, _≤_};
+ghost use Prim.Native.Nat.{_+_, _≤_};
 ghost use mathlib.Core.Path.{_≡_};
-ghost use Rattle.volume.specs.Inodes.{addressesAt, inodeAt, inodeBytes};
+ghost use Rattle.volume.specs.Inodes.{inodeAt, inodeBytes};
 use crate::words::high;
 use crate::words::low;
+use crate::words::read_words;
 use crate::words::word_at;
 use store::interface::Block;
 
 // The bytes of an inode record, sixteen of which make a block.
 pub const INODE_SIZE: usize = 32;
-
-// The addresses of an inode, each the number of a data block, or 0.
-pub const ADDRESSES: usize = 8;
 
 #[derive(Clone, Copy, Debug)]
 pub struct Inode {
@@ -24,24 +22,14 @@ pub struct Inode {
     pub times: [u8; 8],
 }
 
-// The eight words from that place on.
-fn addresses_at(block: &Block, at: usize) -> [u16; 8]
-    requires { ⌜ at + 16 ≤ 512 ⌝ }
-    ensures { λ r. ⌜ r ≡ addressesAt (now (block .entry)) at ⌝ }
-{
-    let mut addresses = [0; 8];
-    for j in 0..ADDRESSES {
-        addresses[j] = word_at(block, at + 2 * j);
-    }
-    addresses
-}
-
 impl Inode {
     // The record that begins at that byte of a block.
     pub(crate) fn decode(block: &Block, at: usize) -> Inode
         requires { ⌜ at + 32 ≤ 512 ⌝ }
         ensures { λ r. ⌜ r ≡ inodeAt (now (block .entry)) at ⌝ }
     {
+        let mut addresses = [0; 8];
+        read_words(block, at + 8, &mut addresses);
         let mut times = [0; 8];
         times.copy_from_slice(&block[at + 24..at + 32]);
         Inode {
@@ -50,7 +38,7 @@ impl Inode {
             user: block[at + 3],
             group: block[at + 4],
             size: 65536 * (block[at + 5] as u32) + word_at(block, at + 6) as u32,
-            addresses: addresses_at(block, at + 8),
+            addresses,
             times,
         }
     }

@@ -1,4 +1,6 @@
 // The volume in a store: Sixth Edition layout, and whether it is sound.
 pub mod inode;
 pub mod name;
+mod numbers;
+pub mod superblock;
 mod words;

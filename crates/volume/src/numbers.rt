@@ -1,0 +1,31 @@
+// Lists of block numbers.
+ghost use Prim.Native.Nat.{_<_};
+ghost use lib.ListN.{length};
+ghost use mathlib.Core.Path.{_≡_};
+ghost use Rattle.volume.specs.Numbers.{standsBefore, different};
+
+// Whether the number at place j stands at an earlier place too.
+fn stands_before(numbers: &[u16], j: usize) -> bool
+    requires { ⌜ j < length (now numbers) ⌝ }
+    ensures { λ r. ⌜ r ≡ standsBefore (now (numbers .entry)) j ⌝ }
+{
+    let number = numbers[j];
+    for i in 0..j {
+        if numbers[i] == number {
+            return true;
+        }
+    }
+    false
+}
+
+// Whether no number stands twice.
+pub(crate) fn are_different(numbers: &[u16]) -> bool
+    ensures { λ r. ⌜ r ≡ different (now (numbers .entry)) ⌝ }
+{
+    for j in 0..numbers.len() {
+        if stands_before(numbers, j) {
+            return false;
+        }
+    }
+    true
+}
