@@ -1,2 +1,3 @@
 pub mod Everys
+pub mod FreeLists
 pub mod Scans

@@ -2,5 +2,6 @@ pub mod Every
 pub mod Inodes
 pub mod Names
 pub mod Numbers
+pub mod Rules
 pub mod Superblocks
 pub mod Words

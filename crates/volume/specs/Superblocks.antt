@@ -1,11 +1,10 @@
 -- The superblock, block 1 of a volume: how long the inode list is, how many blocks there are, and the free list.
 use Prim.Native.Nat.{ℕ, _+_, _*_, _-_}
-use lib.Dec.{eqb, leb, ltb}
-use mathlib.Core.Bool.{Bool, not, _&&_}
+use lib.Dec.{leb, ltb}
+use mathlib.Core.Bool.{Bool, _&&_}
 use mathlib.Core.List.{List, map}
 use Rattle.std.specs.Iters.{counting}
 use Rattle.store.specs.Stores.{Block}
-use Rattle.volume.specs.Every.{every, some}
 use Rattle.volume.specs.Words.{wordAt}
 
 -- Word w of a superblock.

@@ -2,5 +2,6 @@
 pub mod inode;
 pub mod name;
 mod numbers;
+pub mod rules;
 pub mod superblock;
 mod words;

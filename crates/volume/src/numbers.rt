@@ -2,7 +2,8 @@
 ghost use Prim.Native.Nat.{_<_};
 ghost use lib.ListN.{length};
 ghost use mathlib.Core.Path.{_≡_};
-ghost use Rattle.volume.specs.Numbers.{standsBefore, different};
+ghost use Rattle.volume.specs.Numbers.{standsBefore, different, allData};
+use crate::superblock::is_data;
 
 // Whether the number at place j stands at an earlier place too.
 fn stands_before(numbers: &[u16], j: usize) -> bool
@@ -24,6 +25,18 @@ pub(crate) fn are_different(numbers: &[u16]) -> bool
 {
     for j in 0..numbers.len() {
         if stands_before(numbers, j) {
+            return false;
+        }
+    }
+    true
+}
+
+// Whether each is a data block.
+pub(crate) fn are_data(numbers: &[u16], isize: u16, count: usize) -> bool
+    ensures { λ r. ⌜ r ≡ allData isize count (now (numbers .entry)) ⌝ }
+{
+    for j in 0..numbers.len() {
+        if !is_data(isize, count, numbers[j]) {
             return false;
         }
     }
