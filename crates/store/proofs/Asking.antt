@@ -1,8 +1,8 @@
 -- Laws of questions 1 and 2, for any marks and for those of a plain store.
 use mathlib.Core.Path.{_≡_, refl, sym, ap, _∙_}
 use mathlib.Core.Bool.{Bool, true, false, cond}
-use mathlib.Core.List.{List, _∷_}
-use Prim.Native.Nat.{ℕ, _+_, _≤_, _<_}
+use mathlib.Core.List.{List, [], _∷_}
+use Prim.Native.Nat.{ℕ, zero, suc, _+_, _≤_, _<_}
 use native.Mathlib.Omega.{arith}
 use lib.Dec.{ltb}
 use lib.ListN.{length, getD, drop}
@@ -13,7 +13,7 @@ use Rattle.std.specs.declared.result.Result.the-variants.{Ok, Err}
 use mathlib.Core.Logic.{⊎-elim}
 use Rattle.store.specs.Condemned.{holds, markOf, marked, length-marked, getD-marked}
 use Rattle.store.specs.Faults.{past-count, dead-block}
-use Rattle.store.specs.Stores.{Mark, live, dead, judged, asked, firstDead}
+use Rattle.store.specs.Stores.{Mark, live, dead, judged, asked, firstDead, allLive}
 
 module _ (ms : List Mark) (n : ℕ) where
   pub asked-past : length ms ≤ n → asked ms n ≡ Err (past-count n)
@@ -65,3 +65,15 @@ module _ (ms : List Mark) (n : ℕ) (within : n < length ms) where
       stops : (m : Mark) → isOk (judged n m) ≡ false → firstDead n (m ∷ drop (n + 1) ms) ≡ judged n m
       stops live wrong = absurd (true≢false wrong)
       stops (dead level cover) no′ = refl
+
+-- where no block is dead, each mark is live
+live-at : (k : ℕ) (ms : List Mark) (n : ℕ) → n < length ms → isOk (firstDead k ms) ≡ true → getD ms n live ≡ live
+live-at k [] n within all = absurd (omega arith)
+live-at k (live ∷ ms) zero within all = refl
+live-at k (live ∷ ms) (suc n) within all = live-at (k + 1) ms n (omega arith) all
+live-at k (dead level cover ∷ ms) n within all = absurd (false≢true all)
+
+-- so each block is accepted
+pub asked-from-all : (ms : List Mark) (n : ℕ) → n < length ms → isOk (allLive ms) ≡ true → asked ms n ≡ Ok tt
+unfolding allLive
+asked-from-all ms n within all = asked-within ms n within ∙ ap (judged n) (live-at 0 ms n within all)

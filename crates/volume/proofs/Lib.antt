@@ -1,3 +1,4 @@
 pub mod Everys
 pub mod FreeLists
 pub mod Scans
+pub mod Visiting

@@ -41,3 +41,7 @@ inodeBlock i = (i + 31) / 16
 -- .. from this byte on.
 abbrev pub inodePlace : ℕ → ℕ
 inodePlace i = 32 * ((i + 31) % 16)
+
+-- Inode i of a volume.
+abbrev pub inodeOf : List Block → ℕ → Inode
+inodeOf v i = inodeAt (getD v (inodeBlock i) []) (inodePlace i)

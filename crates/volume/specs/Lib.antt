@@ -4,4 +4,5 @@ pub mod Names
 pub mod Numbers
 pub mod Rules
 pub mod Superblocks
+pub mod Visits
 pub mod Words

@@ -4,4 +4,5 @@ pub mod name;
 mod numbers;
 pub mod rules;
 pub mod superblock;
+mod visit;
 mod words;
