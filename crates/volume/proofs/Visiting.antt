@@ -1,4 +1,5 @@
 -- Going through the inodes block by block is going through them in order.
+use mathlib.Core.Bool.{Bool, true}
 use mathlib.Core.List.{List, []}
 use mathlib.Core.Path.{_≡_, refl, sym, ap, _∙_}
 use Prim.Native.Nat.{ℕ, zero, suc, _+_, _*_, _<_, _≤_}
@@ -6,7 +7,9 @@ use native.Mathlib.Numerals.{add-one}
 use native.Mathlib.Omega.{arith}
 use lib.ListN.{getD}
 use Rattle.store.specs.Stores.{Block}
+use Rattle.volume.specs.Every.{every}
 use Rattle.volume.specs.Inodes.{inodeAt, inodeOf, inodeBlock, inodePlace}
+use Rattle.volume.specs.Tests.{eachAfter}
 use Rattle.volume.specs.Visits.{visited, visitedIn}
 use Rattle.volume.specs.declared.inode.Inode.{Inode}
 
@@ -45,3 +48,9 @@ module _ {V : Type 0} (after : V → ℕ → Inode → V) where
   visited-next v k s t u b sofar read step =
       let e : 16 * (k + 1) ≡ 16 * k + 16 = omega arith in
       step ∙ ap (visitedIn after b (16 * k) 16) sofar ∙ ap (λ x. visitedIn after x (16 * k) 16 (visited after v (16 * k) s)) read ∙ sym (ap (λ i. visited after v i s) e ∙ visited-block v k 16 s (omega arith))
+
+-- a visitor that tests each inode has found out whether all so far pass
+pub visited-each : {T : Type 0} (passes : T → ℕ → Inode → Bool) (v : List Block) (n : ℕ) (t : T) → visited (eachAfter passes) v n (record { test = t; passed = true }) ≡ record { test = t; passed = every n (λ j. passes t (suc j) (inodeOf v (suc j))) }
+unfolding visited every
+visited-each passes v zero t = refl
+visited-each passes v (suc n) t = ap (λ e. eachAfter passes e (suc n) (inodeOf v (suc n))) (visited-each passes v n t)

@@ -4,5 +4,6 @@ pub mod Names
 pub mod Numbers
 pub mod Rules
 pub mod Superblocks
+pub mod Tests
 pub mod Visits
 pub mod Words

@@ -1,13 +1,16 @@
 -- The rules of a sound volume, as tests of its list of blocks.
-use Prim.Native.Nat.{ℕ, _+_, _%_}
+use Prim.Native.Nat.{ℕ, _+_, _*_, _/_, _%_}
 use lib.Bits.{bitAnd}
-use lib.Dec.{eqb, leb}
+use lib.Dec.{eqb, leb, ltb}
 use lib.ListN.{length, getD}
-use mathlib.Core.Bool.{Bool, _&&_}
+use mathlib.Core.Bool.{Bool, not, cond, _&&_, _||_}
 use mathlib.Core.List.{List, []}
 use Rattle.store.specs.Stores.{Block}
+use Rattle.volume.specs.Every.{every}
+use Rattle.volume.specs.Inodes.{inodeOf}
 use Rattle.volume.specs.Numbers.{allData, different}
-use Rattle.volume.specs.Superblocks.{isizeOf, fsizeOf, nfreeOf, freeAt, freeList}
+use Rattle.volume.specs.Superblocks.{isizeOf, fsizeOf, nfreeOf, freeAt, freeList, isData}
+use Rattle.volume.specs.declared.inode.Inode.{Inode}
 
 -- Of a superblock, in a volume of so many blocks: at most 100 of them, 1 to all but 3 for the inode list, and the
 -- superblock says how many there are.
@@ -18,3 +21,31 @@ goodSizes b count = (leb count 100 && leb 1 (isizeOf b)) && (leb (isizeOf b + 3)
 abbrev pub goodFree : Block → ℕ → Bool
 goodFree b count =
     (leb 1 (nfreeOf b) && leb (nfreeOf b) 100) && (eqb (freeAt b 0) 0 && (allData (isizeOf b) count (freeList b) && different (freeList b)))
+
+-- An inode is allocated when its mode has the bit 0x8000.
+abbrev pub allocated : Inode → Bool
+allocated i = not (eqb (bitAnd (i .mode) 0x8000) 0)
+
+-- A directory: of that kind, linked twice, and of 2 to 256 whole entries.
+abbrev pub isDirectory : Inode → Bool
+isDirectory i = (eqb (bitAnd (i .mode) 0xf000) 0xc000 && eqb (i .links) 2) && ((leb 32 (i .size) && leb (i .size) 4096) && eqb (i .size % 16) 0)
+
+-- A plain file: of that kind, linked once, and of at most 4,096 bytes.
+abbrev pub isPlainFile : Inode → Bool
+isPlainFile i = eqb (bitAnd (i .mode) 0xf000) 0x8000 && (eqb (i .links) 1 && leb (i .size) 4096)
+
+-- Each inode but the first is free or a plain file.
+abbrev pub freeOrPlain : ℕ → Inode → Bool
+freeOrPlain n i = eqb n 1 || (not (allocated i) || isPlainFile i)
+
+-- The blocks that a file of that size takes.
+abbrev pub blocksFor : ℕ → ℕ
+blocksFor size = (size + 511) / 512
+
+-- Address j is a data block where the size reaches so far, and 0 behind.
+abbrev pub goodAddress : (isize count : ℕ) → Inode → ℕ → Bool
+goodAddress isize count i j = cond (ltb j (blocksFor (i .size))) (isData isize count (getD (i .addresses) j 0)) (eqb (getD (i .addresses) j 0) 0)
+
+-- The addresses of an inode are good if it is allocated.
+abbrev pub goodAddresses : (isize count : ℕ) → Inode → Bool
+goodAddresses isize count i = not (allocated i) || every 8 (goodAddress isize count i)

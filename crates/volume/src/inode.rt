@@ -2,6 +2,7 @@
 ghost use Prim.Native.Nat.{_+_, _≤_};
 ghost use mathlib.Core.Path.{_≡_};
 ghost use Rattle.volume.specs.Inodes.{inodeAt, inodeBytes};
+ghost use Rattle.volume.specs.Rules.{allocated, isDirectory, isPlainFile};
 use crate::words::high;
 use crate::words::low;
 use crate::words::read_words;
@@ -84,5 +85,29 @@ impl Inode {
             y,
             z,
         ]
+    }
+
+    pub(crate) fn is_allocated(&self) -> bool
+        ensures { λ r. ⌜ r ≡ allocated (now (self .entry)) ⌝ }
+    {
+        self.mode & 0x8000 != 0
+    }
+
+    // A directory of 2 to 256 whole entries, linked twice.
+    pub(crate) fn is_directory(&self) -> bool
+        ensures { λ r. ⌜ r ≡ isDirectory (now (self .entry)) ⌝ }
+    {
+        self.mode & 0xf000 == 0xc000
+            && self.links == 2
+            && 32 <= self.size
+            && self.size <= 4096
+            && self.size % 16 == 0
+    }
+
+    // A plain file of at most 4,096 bytes, linked once.
+    pub(crate) fn is_plain_file(&self) -> bool
+        ensures { λ r. ⌜ r ≡ isPlainFile (now (self .entry)) ⌝ }
+    {
+        self.mode & 0xf000 == 0x8000 && self.links == 1 && self.size <= 4096
     }
 }
