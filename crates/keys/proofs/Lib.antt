@@ -1,3 +1,4 @@
+-- The lemmas of the crate, by topic.
 pub mod Entries
 pub mod Keeping
 pub mod Remainders

@@ -1,3 +1,4 @@
+-- What the contracts of the crate speak of.
 pub mod Algebra
 pub mod Bits
 pub mod Calls

@@ -12,22 +12,22 @@ pub returns-then-parity-eq0 : need.returns-then-parity-eq0
 returns-then-parity-eq0 c =
     let v = c .args .candidate in
     let xs = c .args .keys .now in
-    says-fits xs v false (sym (even-fits xs v (sym (c .parity .ensures) ∙ c .if-parity-eq0 .taken)))
+    says-fits xs v false (sym (even-fits xs v (omega arith)))
 
 pub returns-then-product-eq1 : need.returns-then-product-eq1
 returns-then-product-eq1 c =
     let v = c .args .candidate in
     let xs = c .args .keys .now in
     says-fits xs v false
-    (sym (odd-orthogonal xs v (λ e. c .if-parity-eq0 .left (c .parity .ensures ∙ e)) ∙ sym (c .loop-key .inv) ∙ orthogonal-here v xs (c .loop-key .key-index) (omega arith) (sym (c .product .ensures) ∙ c .if-product-eq1 .taken)))
+    (sym (odd-orthogonal xs v (λ e. omega arith) ∙ sym (c .loop-key .inv) ∙ orthogonal-here v xs (c .loop-key .key-index) (omega arith) (omega arith)))
 
 pub loop-key-again : need.loop-key-again
 loop-key-again c =
-    orthogonal-on (c .args .candidate) (c .args .keys .now) (c .loop-key .key-index) (omega arith) (λ e. c .if-product-eq1 .left (c .product .ensures ∙ e)) ∙ c .loop-key .inv
+    orthogonal-on (c .args .candidate) (c .args .keys .now) (c .loop-key .key-index) (omega arith) (λ e. omega arith) ∙ c .loop-key .inv
 
 pub returns : need.returns
 returns c =
     let v = c .args .candidate in
     let xs = c .args .keys .now in
     says-fits xs v true
-    (sym (odd-orthogonal xs v (λ e. c .if-parity-eq0 .left (c .parity .ensures ∙ e)) ∙ sym (c .loop-key .inv) ∙ at-drop-all (λ us. orthogonal us v) xs (c .loop-key .key-index) (omega arith)))
+    (sym (odd-orthogonal xs v (λ e. omega arith) ∙ sym (c .loop-key .inv) ∙ at-drop-all (λ us. orthogonal us v) xs (c .loop-key .key-index) (omega arith)))

@@ -11,5 +11,5 @@ append-requires c κs =
     record {
       room = c .in-Continue-admit .ensures tt .room refl;
       below = rw (c .remainder-key .ensures .answer) (remainder-below (t .covers) (standing t) (t .below) (c .args .candidate) (c .in-Continue-admit .ensures tt .below refl));
-      fits = c .remainder-key .ensures .fits-if-odd (omega (arith, c .parity .ensures, c .if-parity-eq0 .left));
+      fits = c .remainder-key .ensures .fits-if-odd (omega arith);
     }
