@@ -4,6 +4,7 @@ pub mod Names
 pub mod Numbers
 pub mod Rules
 pub mod Superblocks
+pub mod Tallies
 pub mod Tests
 pub mod Visits
 pub mod Words

@@ -5,5 +5,6 @@ pub mod name;
 mod numbers;
 pub mod rules;
 pub mod superblock;
+mod tally;
 mod visit;
 mod words;
