@@ -1,4 +1,5 @@
 pub mod Everys
 pub mod FreeLists
 pub mod Scans
+pub mod Tallying
 pub mod Visiting

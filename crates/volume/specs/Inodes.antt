@@ -1,9 +1,13 @@
 -- Inode records: where each is, and how its bytes are read and written.
-use Prim.Native.Nat.{ℕ, _+_, _*_, _/_, _%_, _-_}
-use lib.ListN.{getD, set, take, drop}
+use Prim.Native.Nat.{ℕ, suc, _+_, _*_, _/_, _%_}
+use lib.Bits.{bitAnd}
+use lib.Dec.{eqb}
+use lib.ListN.{getD, take, drop}
+use mathlib.Core.Bool.{Bool, not}
 use mathlib.Core.List.{List, [], _∷_, _++_, map}
 use Rattle.std.specs.Iters.{counting}
 use Rattle.store.specs.Stores.{Block}
+use Rattle.volume.specs.Every.{every}
 use Rattle.volume.specs.Words.{byteAt, wordAt, wordsAt}
 use Rattle.volume.specs.declared.inode.Inode.{Inode}
 
@@ -45,3 +49,11 @@ inodePlace i = 32 * ((i + 31) % 16)
 -- Inode i of a volume.
 abbrev pub inodeOf : List Block → ℕ → Inode
 inodeOf v i = inodeAt (getD v (inodeBlock i) []) (inodePlace i)
+
+-- Inodes 1 to 16·isize of a volume pass.
+abbrev pub everyInode : (ℕ → Inode → Bool) → List Block → (isize : ℕ) → Bool
+everyInode p v isize = every (16 * isize) (λ j. p (suc j) (inodeOf v (suc j)))
+
+-- An inode is allocated when its mode has the bit 0x8000.
+abbrev pub allocated : Inode → Bool
+allocated i = not (eqb (bitAnd (i .mode) 0x8000) 0)

@@ -1,5 +1,5 @@
 -- The rules of a sound volume, as tests of its list of blocks.
-use Prim.Native.Nat.{ℕ, _+_, _*_, _/_, _%_}
+use Prim.Native.Nat.{ℕ, suc, _+_, _*_, _/_, _%_}
 use lib.Bits.{bitAnd}
 use lib.Dec.{eqb, leb, ltb}
 use lib.ListN.{length, getD}
@@ -7,8 +7,8 @@ use mathlib.Core.Bool.{Bool, not, cond, _&&_, _||_}
 use mathlib.Core.List.{List, []}
 use Rattle.store.specs.Stores.{Block}
 use Rattle.volume.specs.Every.{every}
-use Rattle.volume.specs.Inodes.{inodeOf}
-use Rattle.volume.specs.Numbers.{allData, different}
+use Rattle.volume.specs.Inodes.{allocated, inodeOf, everyInode}
+use Rattle.volume.specs.Numbers.{allData, different, occurrences, total}
 use Rattle.volume.specs.Superblocks.{isizeOf, fsizeOf, nfreeOf, freeAt, freeList, isData}
 use Rattle.volume.specs.declared.inode.Inode.{Inode}
 
@@ -21,10 +21,6 @@ goodSizes b count = (leb count 100 && leb 1 (isizeOf b)) && (leb (isizeOf b + 3)
 abbrev pub goodFree : Block → ℕ → Bool
 goodFree b count =
     (leb 1 (nfreeOf b) && leb (nfreeOf b) 100) && (eqb (freeAt b 0) 0 && (allData (isizeOf b) count (freeList b) && different (freeList b)))
-
--- An inode is allocated when its mode has the bit 0x8000.
-abbrev pub allocated : Inode → Bool
-allocated i = not (eqb (bitAnd (i .mode) 0x8000) 0)
 
 -- A directory: of that kind, linked twice, and of 2 to 256 whole entries.
 abbrev pub isDirectory : Inode → Bool
@@ -49,3 +45,43 @@ goodAddress isize count i j = cond (ltb j (blocksFor (i .size))) (isData isize c
 -- The addresses of an inode are good if it is allocated.
 abbrev pub goodAddresses : (isize count : ℕ) → Inode → Bool
 goodAddresses isize count i = not (allocated i) || every 8 (goodAddress isize count i)
+
+-- How often an inode holds block n: not at all if it is free.
+abbrev pub heldBy : ℕ → Inode → ℕ
+heldBy n i = cond (allocated i) (occurrences n (i .addresses)) 0
+
+-- The superblock of a volume.
+abbrev pub superOf : List Block → Block
+superOf v = getD v 1 []
+
+-- The blocks of its inode list.
+abbrev pub isizeIn : List Block → ℕ
+isizeIn v = isizeOf (superOf v)
+
+-- How often block n stands among the numbers of the free list and the addresses of the allocated inodes.
+abbrev pub standings : List Block → ℕ → ℕ
+standings v n = occurrences n (freeList (superOf v)) + total (16 * isizeIn v) (λ j. heldBy n (inodeOf v (suc j)))
+
+-- Rule 1: the sizes are good.
+abbrev pub s1 : List Block → Bool
+s1 v = goodSizes (superOf v) (length v)
+
+-- Rule 2: the free list is good.
+abbrev pub s2 : List Block → Bool
+s2 v = goodFree (superOf v) (length v)
+
+-- Rule 3: inode 1 is a directory.
+abbrev pub s3 : List Block → Bool
+s3 v = isDirectory (inodeOf v 1)
+
+-- Rule 4: every other inode is free or a plain file.
+abbrev pub s4 : List Block → Bool
+s4 v = everyInode freeOrPlain v (isizeIn v)
+
+-- Rule 5: the addresses of every allocated inode are good.
+abbrev pub s5 : List Block → Bool
+s5 v = everyInode (λ _. goodAddresses (isizeIn v) (length v)) v (isizeIn v)
+
+-- Rule 6: each data block stands there exactly once.
+abbrev pub s6 : List Block → Bool
+s6 v = every (length v) (λ n. not (isData (isizeIn v) (length v) n) || eqb (standings v n) 1)

@@ -1,26 +1,11 @@
--- How often a block number stands in lists of them.
-use Prim.Native.Nat.{ℕ, zero, suc, min, _+_}
-use lib.Dec.{eqb}
+-- Counts of how often each block is named, as the code keeps them.
+use Prim.Native.Nat.{ℕ, min, _+_}
 use lib.ListN.{getD, set}
 use mathlib.Core.Bool.{cond}
 use mathlib.Core.List.{List, [], _∷_}
-use Rattle.volume.specs.Rules.{allocated}
+use Rattle.volume.specs.Inodes.{allocated}
 use Rattle.volume.specs.declared.inode.Inode.{Inode}
 use Rattle.volume.specs.declared.tally.Tally.{Tally}
-
--- How often n stands in a list.
-abbrev pub occurrences : ℕ → List ℕ → ℕ
-occurrences n [] = 0
-occurrences n (x ∷ xs) = cond (eqb x n) 1 0 + occurrences n xs
-
--- The sum of f over the numbers below n.
-unfoldable pub total : ℕ → (ℕ → ℕ) → ℕ
-total zero f = 0
-total (suc n) f = f n + total n f
-
--- How often an inode holds block n: not at all if it is free.
-abbrev pub heldBy : ℕ → Inode → ℕ
-heldBy n i = cond (allocated i) (occurrences n (i .addresses)) 0
 
 -- Counts with one more for x, which go no higher than 255; a number past the end is not counted.
 abbrev pub bumped : List ℕ → ℕ → List ℕ

@@ -1,8 +1,8 @@
 // An inode record: 32 bytes of the inode list.
 ghost use Prim.Native.Nat.{_+_, _≤_};
 ghost use mathlib.Core.Path.{_≡_};
-ghost use Rattle.volume.specs.Inodes.{inodeAt, inodeBytes};
-ghost use Rattle.volume.specs.Rules.{allocated, isDirectory, isPlainFile};
+ghost use Rattle.volume.specs.Inodes.{inodeAt, inodeBytes, allocated};
+ghost use Rattle.volume.specs.Rules.{isDirectory, isPlainFile};
 use crate::words::high;
 use crate::words::low;
 use crate::words::read_words;
