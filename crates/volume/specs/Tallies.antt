@@ -1,9 +1,11 @@
 -- Counts of how often each block is named, as the code keeps them.
 use Prim.Native.Nat.{ℕ, min, _+_}
+use lib.Dec.{eqb}
 use lib.ListN.{getD, set}
-use mathlib.Core.Bool.{cond}
+use mathlib.Core.Bool.{Bool, not, cond, _||_}
 use mathlib.Core.List.{List, [], _∷_}
 use Rattle.volume.specs.Inodes.{allocated}
+use Rattle.volume.specs.Superblocks.{isData}
 use Rattle.volume.specs.declared.inode.Inode.{Inode}
 use Rattle.volume.specs.declared.tally.Tally.{Tally}
 
@@ -19,3 +21,7 @@ tallied counts (x ∷ xs) = tallied (bumped counts x) xs
 -- A tally after one inode more.
 abbrev pub tallyAfter : Tally → ℕ → Inode → Tally
 tallyAfter t n i = record { counts = cond (allocated i) (tallied (t .counts) (i .addresses)) (t .counts) }
+
+-- Block n has been counted once, if it is a data block.
+abbrev pub onceIn : List ℕ → (isize count n : ℕ) → Bool
+onceIn counts isize count n = not (isData isize count n) || eqb (getD counts n 0) 1
