@@ -52,3 +52,9 @@ module _ (p : ℕ → Bool) where
   some-passes zero k lt passes = absurd (omega arith)
   some-passes (suc n) k lt passes =
       ⊎-elim (λ e. or-left (p n) (some n p) (ap p (sym e) ∙ passes)) (λ ne. or-right (p n) (some n p) (some-passes n k (omega arith) passes)) (cases-eq k n)
+
+-- tests that agree below the bound
+pub every-same : (p q : ℕ → Bool) (n : ℕ) → ((k : ℕ) → k < n → p k ≡ q k) → every n p ≡ every n q
+unfolding every
+every-same p q zero same = refl
+every-same p q (suc n) same = ap (λ b. b && every n p) (same n (omega arith)) ∙ ap (λ b. q n && b) (every-same p q n (λ k lt. same k (omega arith)))

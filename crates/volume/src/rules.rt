@@ -1,14 +1,25 @@
 // The rules of a sound volume, one function a rule.
+ghost use mathlib.Core.Bool.{true};
 ghost use mathlib.Core.Path.{_≡_};
-ghost use Rattle.volume.specs.Rules.{goodSizes, goodFree};
+ghost use Rattle.std.specs.Results.{isOk};
+ghost use Rattle.std.specs.declared.result.Result.the-variants.{Ok};
+ghost use Rattle.store.specs.Stores.{allLive};
+ghost use Rattle.volume.specs.Rules.{goodSizes, goodFree, superOf, s1, s2, s6};
 use crate::numbers::are_data;
 use crate::numbers::are_different;
 use crate::superblock::FREE_PLACES;
 use crate::superblock::fsize_of;
 use crate::superblock::isize_of;
 use crate::superblock::nfree_of;
+use crate::tally::Tally;
+use crate::tally::TallyVisitor;
+use crate::tally::add_free;
+use crate::tally::each_once;
+use crate::visit::visit_inodes;
 use crate::words::read_words;
+use store::fault::Fault;
 use store::interface::Block;
+use store::interface::Store;
 
 // The most blocks of a volume.
 pub const MAX_VOLUME: usize = 100;
@@ -40,4 +51,19 @@ fn free_list_is_good(superblock: &Block, count: usize) -> bool
         return false;
     }
     are_different(named)
+}
+
+// The sixth rule: each data block stands exactly once in the free list and the addresses of the allocated inodes.
+pub(crate) fn blocks_stand_once<S: Store>(store: &S, superblock: &Block) -> Result<bool, Fault>
+    requires live { ⌜ isOk (allLive (S·Store .marks (now store))) ≡ true ⌝ }
+    requires read { ⌜ now superblock ≡ superOf (S·Store .blocks (now store)) ⌝ }
+    requires sizes { ⌜ s1 (S·Store .blocks (now store)) ≡ true ⌝ }
+    requires free { ⌜ s2 (S·Store .blocks (now store)) ≡ true ⌝ }
+    ensures { λ r. ⌜ r ≡ Ok (s6 (S·Store .blocks (now (store .entry)))) ⌝ }
+{
+    let mut tally = Tally { counts: [0; 100] };
+    add_free(&mut tally.counts, superblock);
+    let isize = isize_of(superblock);
+    visit_inodes(store, isize as usize, &mut tally)?;
+    Ok(each_once(&tally.counts, isize, store.count()))
 }

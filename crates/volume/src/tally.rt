@@ -37,7 +37,7 @@ pub(crate) fn add_all(counts: &mut [u8; 100], numbers: &[u16])
     }
 }
 
-impl Visitor for Tally as TallyVisitor {
+pub(crate) impl Visitor for Tally as TallyVisitor {
     ghost after = { tallyAfter };
 
     fn visit(&mut self, _i: usize, inode: &Inode) {
