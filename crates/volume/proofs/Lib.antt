@@ -1,5 +1,6 @@
 pub mod Everys
 pub mod FreeLists
+pub mod Loading
 pub mod RuleFacts
 pub mod Scans
 pub mod Tallying

@@ -1,4 +1,5 @@
 pub mod Every
+pub mod Files
 pub mod Inodes
 pub mod Names
 pub mod Numbers

@@ -1,4 +1,5 @@
 // The volume in a store: Sixth Edition layout, and whether it is sound.
+mod contents;
 mod each;
 pub mod inode;
 pub mod name;
