@@ -1,3 +1,4 @@
+pub mod Entries
 pub mod Every
 pub mod Files
 pub mod Inodes

@@ -1,6 +1,7 @@
 // The volume in a store: Sixth Edition layout, and whether it is sound.
 mod contents;
 mod each;
+pub mod entry;
 pub mod inode;
 pub mod name;
 mod numbers;
