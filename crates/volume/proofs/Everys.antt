@@ -1,12 +1,12 @@
 -- Laws of the tests of all the numbers below a bound, as loops that count up use them.
-use mathlib.Core.Bool.{Bool, true, false, not, _&&_, _||_}
+use mathlib.Core.Bool.{Bool, true, false, _&&_}
 use mathlib.Core.Logic.{⊎-elim}
-use mathlib.Core.Path.{_≡_, refl, sym, ap, subst, _∙_}
-use Prim.Native.Nat.{ℕ, zero, suc, _+_, _<_, _≤_}
+use mathlib.Core.Path.{_≡_, refl, sym, ap, _∙_}
+use Prim.Native.Nat.{ℕ, zero, suc, _+_, _<_}
 use native.Mathlib.Numerals.{add-one}
 use native.Mathlib.Omega.{arith}
-use Rattle.std.proofs.shelf.Tests.{and-from, and-left, and-right, and-parts, or-left, or-right, or-from, cases-eq}
-use Rattle.volume.specs.Every.{every, some}
+use Rattle.std.proofs.shelf.Tests.{and-from, and-left, and-right, and-parts, cases-eq}
+use Rattle.volume.specs.Every.{every}
 
 module _ (p : ℕ → Bool) where
   pub every-none : every 0 p ≡ true
@@ -36,22 +36,6 @@ module _ (p : ℕ → Bool) where
   unfolding every
   every-from zero all = refl
   every-from (suc n) all = and-from (p n) (every n p) (all n (omega arith)) (every-from n (λ k lt. all k (omega arith)))
-
-  pub some-none : some 0 p ≡ false
-  unfolding some
-  some-none = refl
-
-  -- one number more fails
-  pub some-more : (n : ℕ) → some n p ≡ false → p n ≡ false → some (n + 1) p ≡ false
-  unfolding some
-  some-more n none here = rw add-one (or-from (p n) (some n p) here none)
-
-  -- a number passes, so every bound past it has one
-  pub some-passes : (n k : ℕ) → k < n → p k ≡ true → some n p ≡ true
-  unfolding some
-  some-passes zero k lt passes = absurd (omega arith)
-  some-passes (suc n) k lt passes =
-      ⊎-elim (λ e. or-left (p n) (some n p) (ap p (sym e) ∙ passes)) (λ ne. or-right (p n) (some n p) (some-passes n k (omega arith) passes)) (cases-eq k n)
 
 -- tests that agree below the bound
 pub every-same : (p q : ℕ → Bool) (n : ℕ) → ((k : ℕ) → k < n → p k ≡ q k) → every n p ≡ every n q

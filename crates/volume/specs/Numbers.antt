@@ -4,16 +4,16 @@ use lib.Dec.{eqb}
 use lib.ListN.{length, getD}
 use mathlib.Core.Bool.{Bool, not, cond}
 use mathlib.Core.List.{List, [], _∷_}
-use Rattle.volume.specs.Every.{every, some}
+use Rattle.volume.specs.Every.{every}
 use Rattle.volume.specs.Superblocks.{isData}
 
--- The number at place j stands at an earlier place too.
-abbrev pub standsBefore : List ℕ → ℕ → Bool
-standsBefore xs j = some j (λ i. eqb (getD xs i 0) (getD xs j 0))
+-- The number at place j stands at no earlier place.
+abbrev pub isNew : List ℕ → ℕ → Bool
+isNew xs j = every j (λ i. not (eqb (getD xs i 0) (getD xs j 0)))
 
 -- No number stands twice.
 abbrev pub different : List ℕ → Bool
-different xs = every (length xs) (λ j. not (standsBefore xs j))
+different xs = every (length xs) (isNew xs)
 
 -- Each is a data block of a volume with so many blocks of inodes and so many in all.
 abbrev pub allData : (isize count : ℕ) → List ℕ → Bool

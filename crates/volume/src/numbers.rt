@@ -2,21 +2,20 @@
 ghost use Prim.Native.Nat.{_<_};
 ghost use lib.ListN.{length};
 ghost use mathlib.Core.Path.{_≡_};
-ghost use Rattle.volume.specs.Numbers.{standsBefore, different, allData};
+ghost use Rattle.volume.specs.Numbers.{isNew, different, allData};
 use crate::superblock::is_data;
 
-// Whether the number at place j stands at an earlier place too.
-fn stands_before(numbers: &[u16], j: usize) -> bool
+// Whether the number at place j stands at no earlier place.
+fn is_new(numbers: &[u16], j: usize) -> bool
     requires { ⌜ j < length (now numbers) ⌝ }
-    ensures { λ r. ⌜ r ≡ standsBefore (now (numbers .entry)) j ⌝ }
+    ensures { λ r. ⌜ r ≡ isNew (now (numbers .entry)) j ⌝ }
 {
-    let number = numbers[j];
     for i in 0..j {
-        if numbers[i] == number {
-            return true;
+        if numbers[i] == numbers[j] {
+            return false;
         }
     }
-    false
+    true
 }
 
 // Whether no number stands twice.
@@ -24,7 +23,7 @@ pub(crate) fn are_different(numbers: &[u16]) -> bool
     ensures { λ r. ⌜ r ≡ different (now (numbers .entry)) ⌝ }
 {
     for j in 0..numbers.len() {
-        if stands_before(numbers, j) {
+        if !is_new(numbers, j) {
             return false;
         }
     }
