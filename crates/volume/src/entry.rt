@@ -1,7 +1,8 @@
 // A directory entry: 16 bytes, an inode number and a name field.
 ghost use Prim.Native.Nat.{_<_};
 ghost use mathlib.Core.Path.{_≡_};
-ghost use Rattle.volume.specs.Entries.{entryAt};
+ghost use Rattle.std.specs.shelf.Text.{sameBytes};
+ghost use Rattle.volume.specs.Entries.{entryAt, isEntry, goodDots};
 use crate::name::MAX_NAME;
 
 // The bytes of an entry.
@@ -13,6 +14,10 @@ pub struct Entry {
     pub inode: u16,
     pub name: [u8; 14],
 }
+
+const DOT: [u8; 14] = *b".\0\0\0\0\0\0\0\0\0\0\0\0\0";
+
+const DOTS: [u8; 14] = *b"..\0\0\0\0\0\0\0\0\0\0\0\0";
 
 impl Entry {
     // Entry e of a directory's bytes.
@@ -26,4 +31,27 @@ impl Entry {
         name.copy_from_slice(&directory[start + 2..start + 2 + MAX_NAME]);
         Entry { inode, name }
     }
+
+    // Whether it is an entry for that inode, with that name field.
+    pub(crate) fn is_for(&self, inode: u16, name: &[u8; 14]) -> bool
+        ensures { λ r. ⌜ r ≡ isEntry inode (now (name .entry)) (now (self .entry)) ⌝ }
+    {
+        self.inode == inode && same_bytes(&self.name, name)
+    }
+}
+
+// Whether the texts are the same.
+pub(crate) fn same_bytes(a: &[u8], b: &[u8]) -> bool
+    ensures { λ r. ⌜ r ≡ sameBytes (now (a .entry)) (now (b .entry)) ⌝ }
+{
+    a == b
+}
+
+// Whether the first two entries are "." and "..", both for inode 1.
+pub(crate) fn dots_are_good(directory: &[u8; 4096]) -> bool
+    ensures { λ r. ⌜ r ≡ goodDots (now (directory .entry)) ⌝ }
+{
+    let first = Entry::decode(directory, 0);
+    let second = Entry::decode(directory, 1);
+    first.is_for(1, &DOT) && second.is_for(1, &DOTS)
 }
