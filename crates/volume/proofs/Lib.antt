@@ -1,4 +1,5 @@
 pub mod Everys
+pub mod Fields
 pub mod FreeLists
 pub mod Loading
 pub mod RuleFacts
