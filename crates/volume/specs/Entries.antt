@@ -1,10 +1,12 @@
 -- Directory entries: 16 bytes each, an inode number and a name field.
 use Prim.Native.Nat.{ℕ, _+_, _*_}
-use lib.Dec.{eqb}
+use lib.Dec.{eqb, leb}
 use lib.ListN.{take, drop}
-use mathlib.Core.Bool.{Bool, _&&_}
+use mathlib.Core.Bool.{Bool, not, _&&_, _||_}
 use mathlib.Core.List.{List, [], _∷_}
 use Rattle.std.specs.shelf.Text.{sameBytes}
+use Rattle.volume.specs.Every.{every}
+use Rattle.volume.specs.Names.{lawfulField}
 use Rattle.volume.specs.Words.{wordAt}
 use Rattle.volume.specs.declared.entry.Entry.{Entry}
 
@@ -26,3 +28,19 @@ dots = 46 ∷ (46 ∷ (0 ∷ (0 ∷ (0 ∷ (0 ∷ (0 ∷ (0 ∷ (0 ∷ (0 ∷ (0
 -- The first two entries name the directory itself.
 abbrev pub goodDots : List ℕ → Bool
 goodDots d = isEntry 1 dot (entryAt d 0) && isEntry 1 dots (entryAt d 1)
+
+-- A later entry that is not empty.
+abbrev pub used : List ℕ → ℕ → Bool
+used d e = leb 2 e && not (eqb (entryAt d e .inode) 0)
+
+-- Entries k and e are used, and have the same name.
+abbrev pub sameName : List ℕ → ℕ → ℕ → Bool
+sameName d e k = used d k && sameBytes (entryAt d k .name) (entryAt d e .name)
+
+-- No earlier used entry has the name of entry e.
+abbrev pub newName : List ℕ → ℕ → Bool
+newName d e = every e (λ k. not (sameName d e k))
+
+-- Entry e, if it is used, has a lawful name that no earlier one has.
+abbrev pub wellNamed : List ℕ → ℕ → Bool
+wellNamed d e = not (used d e) || (lawfulField (entryAt d e .name) && newName d e)

@@ -1,5 +1,6 @@
 // The volume in a store: Sixth Edition layout, and whether it is sound.
 mod contents;
+mod directory;
 mod each;
 pub mod entry;
 pub mod inode;

@@ -1,0 +1,64 @@
+// The entries of a directory, against the rules of a sound volume.
+ghost use Prim.Native.Nat.{_<_, _≤_};
+ghost use mathlib.Core.Path.{_≡_};
+ghost use Rattle.volume.specs.Entries.{used, sameName, newName, wellNamed};
+ghost use Rattle.volume.specs.Every.{every};
+use crate::entry::Entry;
+use crate::entry::same_bytes;
+use crate::name::is_lawful_field;
+
+// Whether entry e is a later one that is not empty.
+fn is_used(directory: &[u8; 4096], e: usize) -> bool
+    requires { ⌜ e < 256 ⌝ }
+    ensures { λ r. ⌜ r ≡ used (now (directory .entry)) e ⌝ }
+{
+    2 <= e && Entry::decode(directory, e).inode != 0
+}
+
+// Whether entry k is used and has the name of entry e.
+fn has_name_of(directory: &[u8; 4096], e: usize, k: usize) -> bool
+    requires { ⌜ e < 256 ⌝ }
+    requires { ⌜ k < 256 ⌝ }
+    ensures { λ r. ⌜ r ≡ sameName (now (directory .entry)) e k ⌝ }
+{
+    let earlier = Entry::decode(directory, k);
+    let entry = Entry::decode(directory, e);
+    is_used(directory, k) && same_bytes(&earlier.name, &entry.name)
+}
+
+// Whether no earlier used entry has the name of entry e.
+fn is_new_name(directory: &[u8; 4096], e: usize) -> bool
+    requires { ⌜ e < 256 ⌝ }
+    ensures { λ r. ⌜ r ≡ newName (now (directory .entry)) e ⌝ }
+{
+    for k in 0..e {
+        if has_name_of(directory, e, k) {
+            return false;
+        }
+    }
+    true
+}
+
+// Whether entry e, if it is used, has a lawful name that no earlier one has.
+fn is_well_named(directory: &[u8; 4096], e: usize) -> bool
+    requires { ⌜ e < 256 ⌝ }
+    ensures { λ r. ⌜ r ≡ wellNamed (now (directory .entry)) e ⌝ }
+{
+    if !is_used(directory, e) {
+        return true;
+    }
+    is_lawful_field(&Entry::decode(directory, e).name) && is_new_name(directory, e)
+}
+
+// Whether each entry is well named.
+pub(crate) fn are_well_named(directory: &[u8; 4096], entries: usize) -> bool
+    requires { ⌜ entries ≤ 256 ⌝ }
+    ensures { λ r. ⌜ r ≡ every entries (wellNamed (now (directory .entry))) ⌝ }
+{
+    for e in 0..entries {
+        if !is_well_named(directory, e) {
+            return false;
+        }
+    }
+    true
+}
