@@ -2,6 +2,7 @@ pub mod Entries
 pub mod Every
 pub mod Files
 pub mod Inodes
+pub mod Maps
 pub mod Names
 pub mod Numbers
 pub mod Rules

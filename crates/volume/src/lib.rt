@@ -4,6 +4,7 @@ mod directory;
 mod each;
 pub mod entry;
 pub mod inode;
+mod map;
 pub mod name;
 mod numbers;
 pub mod rules;
