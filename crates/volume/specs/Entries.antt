@@ -2,12 +2,16 @@
 use Prim.Native.Nat.{ℕ, _+_, _*_}
 use lib.Dec.{eqb, leb}
 use lib.ListN.{take, drop}
-use mathlib.Core.Bool.{Bool, not, _&&_, _||_}
+use mathlib.Core.Bool.{Bool, not, cond, _&&_, _||_}
 use mathlib.Core.List.{List, [], _∷_}
 use Rattle.std.specs.shelf.Text.{sameBytes}
+use Rattle.store.specs.Stores.{Block}
 use Rattle.volume.specs.Every.{every}
+use Rattle.volume.specs.Inodes.{allocated, inodeOf}
 use Rattle.volume.specs.Names.{lawfulField}
+use Rattle.volume.specs.Numbers.{total}
 use Rattle.volume.specs.Words.{wordAt}
+use Rattle.volume.specs.declared.inode.Inode.{Inode}
 use Rattle.volume.specs.declared.entry.Entry.{Entry}
 
 -- Entry e of a directory's bytes: the number of its inode, 0 where it is empty, then 14 bytes of a name filled up with zeros.
@@ -44,3 +48,16 @@ newName d e = every e (λ k. not (sameName d e k))
 -- Entry e, if it is used, has a lawful name that no earlier one has.
 abbrev pub wellNamed : List ℕ → ℕ → Bool
 wellNamed d e = not (used d e) || (lawfulField (entryAt d e .name) && newName d e)
+
+-- Entry e, if it is used, has the number of an allocated inode other than 1.
+abbrev pub wellNumbered : List Block → (isize : ℕ) → List ℕ → ℕ → Bool
+wellNumbered v isize d e =
+    not (used d e) || ((leb 2 (entryAt d e .inode) && leb (entryAt d e .inode) (16 * isize)) && allocated (inodeOf v (entryAt d e .inode)))
+
+-- How many of the first n entries are used and have the number i.
+abbrev pub entriesFor : List ℕ → (n i : ℕ) → ℕ
+entriesFor d n i = total n (λ e. cond (used d e && eqb (entryAt d e .inode) i) 1 0)
+
+-- Inode i, if it is allocated and not the first, has exactly one such entry.
+abbrev pub entered : List ℕ → (n i : ℕ) → Inode → Bool
+entered d n i inode = (eqb i 1 || not (allocated inode)) || eqb (entriesFor d n i) 1

@@ -3,6 +3,7 @@ ghost use Prim.Native.Nat.{_<_, _≤_};
 ghost use mathlib.Core.Path.{_≡_};
 ghost use Rattle.volume.specs.Entries.{used, sameName, newName, wellNamed};
 ghost use Rattle.volume.specs.Every.{every};
+ghost use Rattle.volume.specs.Maps.{numberedBy};
 use crate::entry::Entry;
 use crate::entry::same_bytes;
 use crate::name::is_lawful_field;
@@ -57,6 +58,41 @@ pub(crate) fn are_well_named(directory: &[u8; 4096], entries: usize) -> bool
 {
     for e in 0..entries {
         if !is_well_named(directory, e) {
+            return false;
+        }
+    }
+    true
+}
+
+// Whether entry e, if it is used, has a number from 2 to the limit that the map has as allocated.
+fn is_numbered_by(map: &[bool; 1553], limit: usize, directory: &[u8; 4096], e: usize) -> bool
+    requires { ⌜ limit < 1553 ⌝ }
+    requires { ⌜ e < 256 ⌝ }
+    ensures { λ r. ⌜ r ≡ numberedBy (now (map .entry)) limit (now (directory .entry)) e ⌝ }
+{
+    if !is_used(directory, e) {
+        return true;
+    }
+    let number = Entry::decode(directory, e).inode as usize;
+    if number < 2 || number > limit {
+        return false;
+    }
+    map[number]
+}
+
+// Whether each entry is numbered so.
+pub(crate) fn are_numbered_by(
+    map: &[bool; 1553],
+    limit: usize,
+    directory: &[u8; 4096],
+    entries: usize,
+) -> bool
+    requires { ⌜ limit < 1553 ⌝ }
+    requires { ⌜ entries ≤ 256 ⌝ }
+    ensures { λ r. ⌜ r ≡ every entries (numberedBy (now (map .entry)) limit (now (directory .entry))) ⌝ }
+{
+    for e in 0..entries {
+        if !is_numbered_by(map, limit, directory, e) {
             return false;
         }
     }
