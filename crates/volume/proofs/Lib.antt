@@ -5,4 +5,5 @@ pub mod Loading
 pub mod RuleFacts
 pub mod Scans
 pub mod Tallying
+pub mod Totals
 pub mod Visiting

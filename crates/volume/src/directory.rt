@@ -1,7 +1,9 @@
 // The entries of a directory, against the rules of a sound volume.
 ghost use Prim.Native.Nat.{_<_, _≤_};
+ghost use lib.Dec.{eqb};
+ghost use mathlib.Core.Bool.{cond, _&&_};
 ghost use mathlib.Core.Path.{_≡_};
-ghost use Rattle.volume.specs.Entries.{used, sameName, newName, wellNamed};
+ghost use Rattle.volume.specs.Entries.{entryAt, used, sameName, newName, wellNamed, entriesFor};
 ghost use Rattle.volume.specs.Every.{every};
 ghost use Rattle.volume.specs.Maps.{numberedBy};
 use crate::entry::Entry;
@@ -97,4 +99,30 @@ pub(crate) fn are_numbered_by(
         }
     }
     true
+}
+
+// 1 where entry e is used and has the number i, else 0.
+fn entry_for(directory: &[u8; 4096], e: usize, i: usize) -> usize
+    requires { ⌜ e < 256 ⌝ }
+    ensures value { λ r. ⌜ r ≡ cond (used (now (directory .entry)) e && eqb (entryAt (now (directory .entry)) e .inode) i) 1 0 ⌝ }
+    ensures few { λ r. ⌜ r ≤ 1 ⌝ }
+{
+    let number = Entry::decode(directory, e).inode as usize;
+    if is_used(directory, e) && number == i {
+        1
+    } else {
+        0
+    }
+}
+
+// How many of the entries are used and have the number i.
+pub(crate) fn entries_for(directory: &[u8; 4096], entries: usize, i: usize) -> usize
+    requires { ⌜ entries ≤ 256 ⌝ }
+    ensures { λ r. ⌜ r ≡ entriesFor (now (directory .entry)) entries i ⌝ }
+{
+    let mut found = 0;
+    for e in 0..entries {
+        found += entry_for(directory, e, i);
+    }
+    found
 }
