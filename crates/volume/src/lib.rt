@@ -2,6 +2,7 @@
 mod contents;
 mod directory;
 mod each;
+mod entered;
 pub mod entry;
 pub mod inode;
 mod map;
