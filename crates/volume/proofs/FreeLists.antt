@@ -13,15 +13,8 @@ use Rattle.store.specs.Stores.{Block}
 use Rattle.volume.specs.Numbers.{allData, different}
 use Rattle.volume.specs.Rules.{goodFree}
 use Rattle.volume.specs.Superblocks.{freeAt, freeList, isizeOf, nfreeOf}
+use Rattle.volume.proofs.Reading.{length-wordsAt, getD-wordsAt}
 use Rattle.volume.specs.Words.{wordAt, wordsAt}
-
-pub length-wordsAt : (n : ℕ) (b : Block) (at : ℕ) → length (wordsAt n b at) ≡ n
-unfolding wordsAt
-length-wordsAt n b at = length-map-counting (λ j. wordAt b (at + 2 * j)) 0 n
-
-pub getD-wordsAt : (n : ℕ) (b : Block) (at j : ℕ) → j < n → getD (wordsAt n b at) j 0 ≡ wordAt b (at + 2 * j)
-unfolding wordsAt
-getD-wordsAt n b at j within = getD-map-counting (λ i. wordAt b (at + 2 * i)) 0 n j j 0 within (omega arith)
 
 module _ (b : Block) where
   pub length-freeList : length (freeList b) ≡ nfreeOf b - 1

@@ -1,7 +1,6 @@
 -- Directory entries: 16 bytes each, an inode number and a name field.
 use Prim.Native.Nat.{ℕ, _+_, _*_}
 use lib.Dec.{eqb, leb}
-use lib.ListN.{take, drop}
 use mathlib.Core.Bool.{Bool, not, cond, _&&_, _||_}
 use mathlib.Core.List.{List, [], _∷_}
 use Rattle.std.specs.shelf.Text.{sameBytes}
@@ -10,13 +9,17 @@ use Rattle.volume.specs.Every.{every}
 use Rattle.volume.specs.Inodes.{allocated, inodeOf}
 use Rattle.volume.specs.Names.{lawfulField}
 use Rattle.volume.specs.Numbers.{total}
-use Rattle.volume.specs.Words.{wordAt}
+use Rattle.volume.specs.Words.{wordAt, bytesAt}
 use Rattle.volume.specs.declared.inode.Inode.{Inode}
 use Rattle.volume.specs.declared.entry.Entry.{Entry}
 
 -- Entry e of a directory's bytes: the number of its inode, 0 where it is empty, then 14 bytes of a name filled up with zeros.
 abbrev pub entryAt : List ℕ → ℕ → Entry
-entryAt d e = record { inode = wordAt d (16 * e); name = take 14 (drop (16 * e + 2) d) }
+entryAt d e = record { inode = wordAt d (16 * e); name = bytesAt 14 d (16 * e + 2) }
+
+-- The entries of a directory, each at its place.
+abbrev pub Entries : Type 0
+Entries = ℕ → Entry
 
 -- An entry for that inode, with that name field.
 abbrev pub isEntry : ℕ → List ℕ → Entry → Bool
@@ -30,34 +33,34 @@ abbrev pub dots : List ℕ
 dots = 46 ∷ (46 ∷ (0 ∷ (0 ∷ (0 ∷ (0 ∷ (0 ∷ (0 ∷ (0 ∷ (0 ∷ (0 ∷ (0 ∷ (0 ∷ (0 ∷ [])))))))))))))
 
 -- The first two entries name the directory itself.
-abbrev pub goodDots : List ℕ → Bool
-goodDots d = isEntry 1 dot (entryAt d 0) && isEntry 1 dots (entryAt d 1)
+abbrev pub goodDots : Entries → Bool
+goodDots d = isEntry 1 dot (d 0) && isEntry 1 dots (d 1)
 
 -- A later entry that is not empty.
-abbrev pub used : List ℕ → ℕ → Bool
-used d e = leb 2 e && not (eqb (entryAt d e .inode) 0)
+abbrev pub used : Entries → ℕ → Bool
+used d e = leb 2 e && not (eqb (d e .inode) 0)
 
 -- Entries k and e are used, and have the same name.
-abbrev pub sameName : List ℕ → ℕ → ℕ → Bool
-sameName d e k = used d k && sameBytes (entryAt d k .name) (entryAt d e .name)
+abbrev pub sameName : Entries → ℕ → ℕ → Bool
+sameName d e k = used d k && sameBytes (d k .name) (d e .name)
 
 -- No earlier used entry has the name of entry e.
-abbrev pub newName : List ℕ → ℕ → Bool
+abbrev pub newName : Entries → ℕ → Bool
 newName d e = every e (λ k. not (sameName d e k))
 
 -- Entry e, if it is used, has a lawful name that no earlier one has.
-abbrev pub wellNamed : List ℕ → ℕ → Bool
-wellNamed d e = not (used d e) || (lawfulField (entryAt d e .name) && newName d e)
+abbrev pub wellNamed : Entries → ℕ → Bool
+wellNamed d e = not (used d e) || (lawfulField (d e .name) && newName d e)
 
 -- Entry e, if it is used, has the number of an allocated inode other than 1.
-abbrev pub wellNumbered : List Block → (isize : ℕ) → List ℕ → ℕ → Bool
+abbrev pub wellNumbered : List Block → (isize : ℕ) → Entries → ℕ → Bool
 wellNumbered v isize d e =
-    not (used d e) || ((leb 2 (entryAt d e .inode) && leb (entryAt d e .inode) (16 * isize)) && allocated (inodeOf v (entryAt d e .inode)))
+    not (used d e) || ((leb 2 (d e .inode) && leb (d e .inode) (16 * isize)) && allocated (inodeOf v (d e .inode)))
 
 -- How many of the first n entries are used and have the number i.
-abbrev pub entriesFor : List ℕ → (n i : ℕ) → ℕ
-entriesFor d n i = total n (λ e. cond (used d e && eqb (entryAt d e .inode) i) 1 0)
+abbrev pub entriesFor : Entries → (n i : ℕ) → ℕ
+entriesFor d n i = total n (λ e. cond (used d e && eqb (d e .inode) i) 1 0)
 
 -- Inode i, if it is allocated and not the first, has exactly one such entry.
-abbrev pub entered : List ℕ → (n i : ℕ) → Inode → Bool
+abbrev pub entered : Entries → (n i : ℕ) → Inode → Bool
 entered d n i inode = (eqb i 1 || not (allocated inode)) || eqb (entriesFor d n i) 1

@@ -4,7 +4,7 @@ use lib.Dec.{leb}
 use lib.ListN.{getD, set}
 use mathlib.Core.Bool.{Bool, false, not, _&&_, _||_}
 use mathlib.Core.List.{List}
-use Rattle.volume.specs.Entries.{entryAt, used}
+use Rattle.volume.specs.Entries.{Entries, used}
 use Rattle.volume.specs.Inodes.{allocated}
 use Rattle.volume.specs.declared.inode.Inode.{Inode}
 use Rattle.volume.specs.declared.map.InodeMap.{InodeMap}
@@ -14,6 +14,6 @@ abbrev pub mapAfter : InodeMap → ℕ → Inode → InodeMap
 mapAfter m n i = record { allocated = set (m .allocated) n (allocated i) }
 
 -- Entry e, if it is used, has a number from 2 to the limit that the map has as allocated.
-abbrev pub numberedBy : List Bool → (limit : ℕ) → List ℕ → ℕ → Bool
+abbrev pub numberedBy : List Bool → (limit : ℕ) → Entries → ℕ → Bool
 numberedBy map limit d e =
-    not (used d e) || ((leb 2 (entryAt d e .inode) && leb (entryAt d e .inode) limit) && getD map (entryAt d e .inode) false)
+    not (used d e) || ((leb 2 (d e .inode) && leb (d e .inode) limit) && getD map (d e .inode) false)

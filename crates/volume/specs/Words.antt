@@ -13,6 +13,10 @@ byteAt b at = getD b at 0
 abbrev pub wordAt : Block → ℕ → ℕ
 wordAt b at = byteAt b at + 256 * byteAt b (at + 1)
 
+-- The n bytes from a place on.
+unfoldable pub bytesAt : ℕ → Block → ℕ → List ℕ
+bytesAt n b at = map (λ j. byteAt b (at + j)) (counting 0 n)
+
 -- The n words from a place on.
 unfoldable pub wordsAt : ℕ → Block → ℕ → List ℕ
 wordsAt n b at = map (λ j. wordAt b (at + 2 * j)) (counting 0 n)

@@ -13,7 +13,7 @@ use crate::name::is_lawful_field;
 // Whether entry e is a later one that is not empty.
 fn is_used(directory: &[u8; 4096], e: usize) -> bool
     requires { ⌜ e < 256 ⌝ }
-    ensures { λ r. ⌜ r ≡ used (now (directory .entry)) e ⌝ }
+    ensures { λ r. ⌜ r ≡ used (entryAt (now (directory .entry))) e ⌝ }
 {
     2 <= e && Entry::decode(directory, e).inode != 0
 }
@@ -22,7 +22,7 @@ fn is_used(directory: &[u8; 4096], e: usize) -> bool
 fn has_name_of(directory: &[u8; 4096], e: usize, k: usize) -> bool
     requires { ⌜ e < 256 ⌝ }
     requires { ⌜ k < 256 ⌝ }
-    ensures { λ r. ⌜ r ≡ sameName (now (directory .entry)) e k ⌝ }
+    ensures { λ r. ⌜ r ≡ sameName (entryAt (now (directory .entry))) e k ⌝ }
 {
     let earlier = Entry::decode(directory, k);
     let entry = Entry::decode(directory, e);
@@ -32,7 +32,7 @@ fn has_name_of(directory: &[u8; 4096], e: usize, k: usize) -> bool
 // Whether no earlier used entry has the name of entry e.
 fn is_new_name(directory: &[u8; 4096], e: usize) -> bool
     requires { ⌜ e < 256 ⌝ }
-    ensures { λ r. ⌜ r ≡ newName (now (directory .entry)) e ⌝ }
+    ensures { λ r. ⌜ r ≡ newName (entryAt (now (directory .entry))) e ⌝ }
 {
     for k in 0..e {
         if has_name_of(directory, e, k) {
@@ -45,7 +45,7 @@ fn is_new_name(directory: &[u8; 4096], e: usize) -> bool
 // Whether entry e, if it is used, has a lawful name that no earlier one has.
 fn is_well_named(directory: &[u8; 4096], e: usize) -> bool
     requires { ⌜ e < 256 ⌝ }
-    ensures { λ r. ⌜ r ≡ wellNamed (now (directory .entry)) e ⌝ }
+    ensures { λ r. ⌜ r ≡ wellNamed (entryAt (now (directory .entry))) e ⌝ }
 {
     if !is_used(directory, e) {
         return true;
@@ -56,7 +56,7 @@ fn is_well_named(directory: &[u8; 4096], e: usize) -> bool
 // Whether each entry is well named.
 pub(crate) fn are_well_named(directory: &[u8; 4096], entries: usize) -> bool
     requires { ⌜ entries ≤ 256 ⌝ }
-    ensures { λ r. ⌜ r ≡ every entries (wellNamed (now (directory .entry))) ⌝ }
+    ensures { λ r. ⌜ r ≡ every entries (wellNamed (entryAt (now (directory .entry)))) ⌝ }
 {
     for e in 0..entries {
         if !is_well_named(directory, e) {
@@ -70,7 +70,7 @@ pub(crate) fn are_well_named(directory: &[u8; 4096], entries: usize) -> bool
 fn is_numbered_by(map: &[bool; 1553], limit: usize, directory: &[u8; 4096], e: usize) -> bool
     requires { ⌜ limit < 1553 ⌝ }
     requires { ⌜ e < 256 ⌝ }
-    ensures { λ r. ⌜ r ≡ numberedBy (now (map .entry)) limit (now (directory .entry)) e ⌝ }
+    ensures { λ r. ⌜ r ≡ numberedBy (now (map .entry)) limit (entryAt (now (directory .entry))) e ⌝ }
 {
     if !is_used(directory, e) {
         return true;
@@ -91,7 +91,7 @@ pub(crate) fn are_numbered_by(
 ) -> bool
     requires { ⌜ limit < 1553 ⌝ }
     requires { ⌜ entries ≤ 256 ⌝ }
-    ensures { λ r. ⌜ r ≡ every entries (numberedBy (now (map .entry)) limit (now (directory .entry))) ⌝ }
+    ensures { λ r. ⌜ r ≡ every entries (numberedBy (now (map .entry)) limit (entryAt (now (directory .entry)))) ⌝ }
 {
     for e in 0..entries {
         if !is_numbered_by(map, limit, directory, e) {
@@ -104,7 +104,7 @@ pub(crate) fn are_numbered_by(
 // 1 where entry e is used and has the number i, else 0.
 fn entry_for(directory: &[u8; 4096], e: usize, i: usize) -> usize
     requires { ⌜ e < 256 ⌝ }
-    ensures value { λ r. ⌜ r ≡ cond (used (now (directory .entry)) e && eqb (entryAt (now (directory .entry)) e .inode) i) 1 0 ⌝ }
+    ensures value { λ r. ⌜ r ≡ cond (used (entryAt (now (directory .entry))) e && eqb (entryAt (now (directory .entry)) e .inode) i) 1 0 ⌝ }
     ensures few { λ r. ⌜ r ≤ 1 ⌝ }
 {
     let number = Entry::decode(directory, e).inode as usize;
@@ -118,7 +118,7 @@ fn entry_for(directory: &[u8; 4096], e: usize, i: usize) -> usize
 // How many of the entries are used and have the number i.
 pub(crate) fn entries_for(directory: &[u8; 4096], entries: usize, i: usize) -> usize
     requires { ⌜ entries ≤ 256 ⌝ }
-    ensures { λ r. ⌜ r ≡ entriesFor (now (directory .entry)) entries i ⌝ }
+    ensures { λ r. ⌜ r ≡ entriesFor (entryAt (now (directory .entry))) entries i ⌝ }
 {
     let mut found = 0;
     for e in 0..entries {

@@ -1,7 +1,7 @@
 // The last part of the eighth rule: each allocated inode but the first has exactly one entry.
 ghost use Prim.Native.Nat.{_≤_};
 ghost use denote.Ref.{now};
-ghost use Rattle.volume.specs.Entries.{entered};
+ghost use Rattle.volume.specs.Entries.{entryAt, entered};
 use crate::directory::entries_for;
 use crate::each::InodeTest;
 use crate::inode::Inode;
@@ -15,7 +15,7 @@ pub(crate) struct Entered<'a> {
 }
 
 pub(crate) impl<'a> InodeTest for Entered<'a> as EnteredTest {
-    ghost passes = { λ t. entered (now (t .directory)) (t .entries) };
+    ghost passes = { λ t. entered (entryAt (now (t .directory))) (t .entries) };
 
     fn test(&self, i: usize, inode: &Inode) -> bool {
         if i == 1 || !inode.is_allocated() {

@@ -49,7 +49,7 @@ pub(crate) fn same_bytes(a: &[u8], b: &[u8]) -> bool
 
 // Whether the first two entries are "." and "..", both for inode 1.
 pub(crate) fn dots_are_good(directory: &[u8; 4096]) -> bool
-    ensures { λ r. ⌜ r ≡ goodDots (now (directory .entry)) ⌝ }
+    ensures { λ r. ⌜ r ≡ goodDots (entryAt (now (directory .entry))) ⌝ }
 {
     let first = Entry::decode(directory, 0);
     let second = Entry::decode(directory, 1);

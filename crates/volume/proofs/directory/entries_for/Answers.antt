@@ -9,9 +9,9 @@ use Rattle.volume.proofs.directory.entries_for.Needs as need
 
 pub loop-e-holds : need.loop-e-holds
 loop-e-holds c =
-    (sym (total-none (λ e. cond (used (c .args .directory .now) e && eqb (entryAt (c .args .directory .now) e .inode) (c .args .i)) 1 0)), omega arith)
+    (sym (total-none (λ e. cond (used (entryAt (c .args .directory .now)) e && eqb (entryAt (c .args .directory .now) e .inode) (c .args .i)) 1 0)), omega arith)
 
 pub loop-e-again : need.loop-e-again
 loop-e-again c =
-    let more = total-more (λ e. cond (used (c .args .directory .now) e && eqb (entryAt (c .args .directory .now) e .inode) (c .args .i)) 1 0) (c .loop-e .e) in
+    let more = total-more (λ e. cond (used (entryAt (c .args .directory .now)) e && eqb (entryAt (c .args .directory .now) e .inode) (c .args .i)) 1 0) (c .loop-e .e) in
     (omega arith, omega arith)
