@@ -4,7 +4,7 @@ use lib.ListN.{getD, take}
 use mathlib.Core.List.{List, []}
 use Rattle.std.specs.Joined.{joined}
 use Rattle.store.specs.Stores.{Block}
-use Rattle.volume.specs.Rules.{blocksFor}
+use Rattle.volume.specs.Inodes.{blocksFor}
 use Rattle.volume.specs.declared.inode.Inode.{Inode}
 
 -- The first n blocks of a file, one after the other.

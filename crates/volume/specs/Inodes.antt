@@ -57,3 +57,7 @@ everyInode p v isize = every (16 * isize) (λ j. p (suc j) (inodeOf v (suc j)))
 -- An inode is allocated when its mode has the bit 0x8000.
 abbrev pub allocated : Inode → Bool
 allocated i = not (eqb (bitAnd (i .mode) 0x8000) 0)
+
+-- The blocks that a file of that size takes.
+abbrev pub blocksFor : ℕ → ℕ
+blocksFor size = (size + 511) / 512

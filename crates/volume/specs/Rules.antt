@@ -6,8 +6,10 @@ use lib.ListN.{length, getD}
 use mathlib.Core.Bool.{Bool, not, cond, _&&_, _||_}
 use mathlib.Core.List.{List, []}
 use Rattle.store.specs.Stores.{Block}
+use Rattle.volume.specs.Entries.{Entries, entryAt, goodDots, wellNamed, wellNumbered, entered}
 use Rattle.volume.specs.Every.{every}
-use Rattle.volume.specs.Inodes.{allocated, inodeOf, everyInode}
+use Rattle.volume.specs.Files.{fileBlocks}
+use Rattle.volume.specs.Inodes.{allocated, blocksFor, inodeOf, everyInode}
 use Rattle.volume.specs.Numbers.{allData, different, occurrences, total}
 use Rattle.volume.specs.Superblocks.{isizeOf, fsizeOf, nfreeOf, freeAt, freeList, isData}
 use Rattle.volume.specs.declared.inode.Inode.{Inode}
@@ -33,10 +35,6 @@ isPlainFile i = eqb (bitAnd (i .mode) 0xf000) 0x8000 && (eqb (i .links) 1 && leb
 -- Each inode but the first is free or a plain file.
 abbrev pub freeOrPlain : ℕ → Inode → Bool
 freeOrPlain n i = eqb n 1 || (not (allocated i) || isPlainFile i)
-
--- The blocks that a file of that size takes.
-abbrev pub blocksFor : ℕ → ℕ
-blocksFor size = (size + 511) / 512
 
 -- Address j is a data block where the size reaches so far, and 0 behind.
 abbrev pub goodAddress : (isize count : ℕ) → Inode → ℕ → Bool
@@ -85,3 +83,22 @@ s5 v = everyInode (λ _. goodAddresses (isizeIn v) (length v)) v (isizeIn v)
 -- Rule 6: each data block stands there exactly once.
 abbrev pub s6 : List Block → Bool
 s6 v = every (length v) (λ n. not (isData (isizeIn v) (length v) n) || eqb (standings v n) 1)
+
+-- The entries of the directory, inode 1, each read from its blocks.
+abbrev pub directoryOf : List Block → Entries
+directoryOf v = entryAt (fileBlocks v (inodeOf v 1 .addresses) (blocksFor (inodeOf v 1 .size)))
+
+-- How many entries it has.
+abbrev pub entryCount : List Block → ℕ
+entryCount v = inodeOf v 1 .size / 16
+
+-- Rule 7: entries 0 and 1 are "." and "..", both with number 1.
+abbrev pub s7 : List Block → Bool
+s7 v = goodDots (directoryOf v)
+
+-- Rule 8: each later entry that is not empty has a lawful name that no other has and the number of an allocated inode
+-- other than 1, and every such inode has exactly one entry.
+abbrev pub s8 : List Block → Bool
+s8 v =
+    every (entryCount v) (wellNamed (directoryOf v))
+    && (every (entryCount v) (wellNumbered v (isizeIn v) (directoryOf v)) && everyInode (entered (directoryOf v) (entryCount v)) v (isizeIn v))

@@ -1,6 +1,6 @@
 // The contents of a file, read block by block.
 ghost use Prim.Native.Nat.{ℕ, _*_, _<_, _≤_};
-ghost use lib.ListN.{length, getD, take};
+ghost use lib.ListN.{length, getD, take, drop};
 ghost use mathlib.Core.Bool.{true};
 ghost use mathlib.Core.Path.{_≡_};
 ghost use Rattle.std.specs.Results.{isOk};
@@ -23,7 +23,8 @@ pub(crate) fn load_blocks<S: Store>(
     requires few { ⌜ n ≤ 8 ⌝ }
     requires there { ⌜ ((j : ℕ) → j < n → getD (now addresses) j 0 < length (S·Store .blocks (now store))) ⌝ }
     ensures answer { λ r. ⌜ r ≡ Ok tt ⌝ }
-    ensures contents { λ _. ⌜ take (512 * n) (now (contents .exit)) ≡ fileBlocks (S·Store .blocks (now (store .entry))) (now (addresses .entry)) n ⌝ }
+    ensures front { λ _. ⌜ take (512 * n) (now (contents .exit)) ≡ fileBlocks (S·Store .blocks (now (store .entry))) (now (addresses .entry)) n ⌝ }
+    ensures rest { λ _. ⌜ drop (512 * n) (now (contents .exit)) ≡ drop (512 * n) (now (contents .entry)) ⌝ }
 {
     for j in 0..n {
         let block = load(store, addresses[j] as usize)?;
