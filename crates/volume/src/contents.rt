@@ -6,7 +6,11 @@ ghost use mathlib.Core.Path.{_≡_};
 ghost use Rattle.std.specs.Results.{isOk};
 ghost use Rattle.std.specs.declared.result.Result.the-variants.{Ok};
 ghost use Rattle.store.specs.Stores.{allLive};
+ghost use Rattle.std.specs.Vec.{made};
+ghost use Rattle.volume.specs.Entries.{entryAt};
 ghost use Rattle.volume.specs.Files.{fileBlocks};
+ghost use Rattle.volume.specs.Inodes.{blocksFor};
+use crate::inode::Inode;
 use crate::visit::load;
 use store::fault::Fault;
 use store::interface::BLOCK_SIZE;
@@ -32,4 +36,18 @@ pub(crate) fn load_blocks<S: Store>(
         contents[start..start + BLOCK_SIZE].copy_from_slice(&block);
     }
     Ok(())
+}
+
+// The bytes of a directory, with zeros behind its blocks.
+pub(crate) fn load_directory<S: Store>(store: &S, root: &Inode) -> Result<[u8; 4096], Fault>
+    requires live { ⌜ isOk (allLive (S·Store .marks (now store))) ≡ true ⌝ }
+    requires few { ⌜ now root .size ≤ 4096 ⌝ }
+    requires there { ⌜ ((j : ℕ) → j < blocksFor (now root .size) → getD (now root .addresses) j 0 < length (S·Store .blocks (now store))) ⌝ }
+    ensures answer { λ r. ⌜ isOk r ≡ true ⌝ }
+    ensures entries { λ r. ⌜ made r (λ bytes. entryAt bytes ≡ entryAt (fileBlocks (S·Store .blocks (now (store .entry))) (now (root .entry) .addresses) (blocksFor (now (root .entry) .size)))) ⌝ }
+{
+    let mut contents = [0; 4096];
+    let blocks = (root.size as usize + 511) / BLOCK_SIZE;
+    load_blocks(store, &root.addresses, blocks, &mut contents)?;
+    Ok(contents)
 }
