@@ -2,6 +2,7 @@ pub mod Everys
 pub mod Fields
 pub mod FreeLists
 pub mod Loading
+pub mod Mapping
 pub mod Reading
 pub mod RuleFacts
 pub mod Scans
