@@ -1,10 +1,19 @@
 // The rules of a sound volume, one function a rule.
+ghost use Prim.Native.Nat.{_≤_};
 ghost use mathlib.Core.Bool.{true};
 ghost use mathlib.Core.Path.{_≡_};
 ghost use Rattle.std.specs.Results.{isOk};
 ghost use Rattle.std.specs.declared.result.Result.the-variants.{Ok};
 ghost use Rattle.store.specs.Stores.{allLive};
-ghost use Rattle.volume.specs.Rules.{goodSizes, goodFree, superOf, s1, s2, s6};
+ghost use Rattle.volume.specs.Entries.{entryAt};
+ghost use Rattle.volume.specs.Rules.{goodSizes, goodFree, superOf, isizeIn, directoryOf, entryCount, s1, s2, s6, s8};
+use crate::directory::are_numbered_by;
+use crate::directory::are_well_named;
+use crate::each::every_inode;
+use crate::entered::Entered;
+use crate::entered::EnteredTest;
+use crate::map::InodeMap;
+use crate::map::InodeMapVisitor;
 use crate::numbers::are_data;
 use crate::numbers::are_different;
 use crate::superblock::FREE_PLACES;
@@ -66,4 +75,33 @@ pub(crate) fn blocks_stand_once<S: Store>(store: &S, superblock: &Block) -> Resu
     let isize = isize_of(superblock);
     visit_inodes(store, isize as usize, &mut tally)?;
     Ok(each_once(&tally.counts, isize, store.count()))
+}
+
+// The eighth rule, of a directory whose bytes have been loaded.
+pub(crate) fn entries_are_good<S: Store>(
+    store: &S,
+    isize: u16,
+    directory: &[u8; 4096],
+    entries: usize,
+) -> Result<bool, Fault>
+    requires live { ⌜ isOk (allLive (S·Store .marks (now store))) ≡ true ⌝ }
+    requires sizes { ⌜ s1 (S·Store .blocks (now store)) ≡ true ⌝ }
+    requires inodes { ⌜ isize ≡ isizeIn (S·Store .blocks (now store)) ⌝ }
+    requires loaded { ⌜ entryAt (now directory) ≡ directoryOf (S·Store .blocks (now store)) ⌝ }
+    requires counted { ⌜ entries ≡ entryCount (S·Store .blocks (now store)) ⌝ }
+    requires few { ⌜ entries ≤ 256 ⌝ }
+    ensures { λ r. ⌜ r ≡ Ok (s8 (S·Store .blocks (now (store .entry)))) ⌝ }
+{
+    if !are_well_named(directory, entries) {
+        return Ok(false);
+    }
+    let isize = isize as usize;
+    let mut map = InodeMap {
+        allocated: [false; 1553],
+    };
+    visit_inodes(store, isize, &mut map)?;
+    if !are_numbered_by(&map.allocated, 16 * isize, directory, entries) {
+        return Ok(false);
+    }
+    every_inode(store, isize, Entered { directory, entries })
 }
