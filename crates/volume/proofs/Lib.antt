@@ -1,3 +1,4 @@
+pub mod Checking
 pub mod Eighth
 pub mod Everys
 pub mod Fields

@@ -5,7 +5,9 @@ pub mod Inodes
 pub mod Maps
 pub mod Names
 pub mod Numbers
+pub mod RuleNumbers
 pub mod Rules
+pub mod Soundness
 pub mod Superblocks
 pub mod Tallies
 pub mod Tests

@@ -60,7 +60,7 @@ pub(crate) fn every_inode<S: Store, T: InodeTest + Drop>(
 #[derive(Clone, Copy)]
 pub(crate) struct FreeOrPlain;
 
-impl InodeTest for FreeOrPlain as FreeOrPlainTest {
+pub(crate) impl InodeTest for FreeOrPlain as FreeOrPlainTest {
     ghost passes = { λ _. freeOrPlain };
 
     fn test(&self, i: usize, inode: &Inode) -> bool {
@@ -89,7 +89,7 @@ impl Addressed {
     }
 }
 
-impl InodeTest for Addressed as AddressedTest {
+pub(crate) impl InodeTest for Addressed as AddressedTest {
     ghost passes = { λ a _. goodAddresses (a .isize) (a .count) };
 
     fn test(&self, _i: usize, inode: &Inode) -> bool {

@@ -1,4 +1,5 @@
 // The volume in a store: Sixth Edition layout, and whether it is sound.
+pub mod check;
 mod contents;
 mod directory;
 mod each;
@@ -8,6 +9,7 @@ pub mod inode;
 mod map;
 pub mod name;
 mod numbers;
+pub mod rule;
 pub mod rules;
 pub mod superblock;
 mod tally;

@@ -34,7 +34,7 @@ use store::interface::Store;
 pub const MAX_VOLUME: usize = 100;
 
 // The first rule, of the superblock of a volume of so many blocks.
-fn sizes_are_good(superblock: &Block, count: usize) -> bool
+pub(crate) fn sizes_are_good(superblock: &Block, count: usize) -> bool
     ensures { λ r. ⌜ r ≡ goodSizes (now (superblock .entry)) count ⌝ }
 {
     let isize = isize_of(superblock) as usize;
@@ -43,7 +43,7 @@ fn sizes_are_good(superblock: &Block, count: usize) -> bool
 }
 
 // The second rule.
-fn free_list_is_good(superblock: &Block, count: usize) -> bool
+pub(crate) fn free_list_is_good(superblock: &Block, count: usize) -> bool
     ensures { λ r. ⌜ r ≡ goodFree (now (superblock .entry)) count ⌝ }
 {
     let nfree = nfree_of(superblock) as usize;
