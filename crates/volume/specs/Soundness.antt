@@ -19,9 +19,13 @@ unless holds rule later = cond holds later (Some rule)
 abbrev pub brokenEntries : List Block → Option Rule
 brokenEntries v = unless (s7 v) Dots (unless (s8 v) Entries None)
 
+-- The first broken rule from the addresses on.
+abbrev pub brokenAddresses : List Block → Option Rule
+brokenAddresses v = unless (s5 v) Addresses (unless (s6 v) Blocks (brokenEntries v))
+
 -- The first broken rule from the inodes on.
 abbrev pub brokenInodes : List Block → Option Rule
-brokenInodes v = unless (s3 v) Root (unless (s4 v) Inodes (unless (s5 v) Addresses (unless (s6 v) Blocks (brokenEntries v))))
+brokenInodes v = unless (s3 v) Root (unless (s4 v) Inodes (brokenAddresses v))
 
 -- The first broken rule of a volume, or none where it is sound.
 abbrev pub firstBroken : List Block → Option Rule

@@ -6,12 +6,18 @@ ghost use Rattle.std.specs.Results.{isOk};
 ghost use Rattle.std.specs.declared.result.Result.the-variants.{Ok};
 ghost use Rattle.store.specs.Stores.{allLive};
 ghost use Rattle.volume.specs.Entries.{entryAt};
-ghost use Rattle.volume.specs.Rules.{goodSizes, goodFree, superOf, isizeIn, directoryOf, entryCount, s1, s2, s6, s8};
+ghost use Rattle.volume.specs.Inodes.{inodeOf};
+ghost use Rattle.volume.specs.Rules.{goodSizes, goodFree, superOf, isizeIn, directoryOf, entryCount, s1, s2, s4, s5, s6, s8};
 use crate::directory::are_numbered_by;
 use crate::directory::are_well_named;
+use crate::each::Addressed;
+use crate::each::AddressedTest;
+use crate::each::FreeOrPlain;
+use crate::each::FreeOrPlainTest;
 use crate::each::every_inode;
 use crate::entered::Entered;
 use crate::entered::EnteredTest;
+use crate::inode::Inode;
 use crate::map::InodeMap;
 use crate::map::InodeMapVisitor;
 use crate::numbers::are_data;
@@ -24,6 +30,7 @@ use crate::tally::Tally;
 use crate::tally::TallyVisitor;
 use crate::tally::add_free;
 use crate::tally::each_once;
+use crate::visit::load;
 use crate::visit::visit_inodes;
 use crate::words::read_words;
 use store::fault::Fault;
@@ -60,6 +67,38 @@ pub(crate) fn free_list_is_good(superblock: &Block, count: usize) -> bool
         return false;
     }
     are_different(named)
+}
+
+// Inode 1, the root directory.
+pub(crate) fn load_root<S: Store>(store: &S) -> Result<Inode, Fault>
+    requires live { ⌜ isOk (allLive (S·Store .marks (now store))) ≡ true ⌝ }
+    requires sizes { ⌜ s1 (S·Store .blocks (now store)) ≡ true ⌝ }
+    ensures { λ r. ⌜ r ≡ Ok (inodeOf (S·Store .blocks (now (store .entry))) 1) ⌝ }
+{
+    let block = load(store, 2)?;
+    Ok(Inode::decode(&block, 0))
+}
+
+// The fourth rule: each inode but the first is free or a plain file.
+pub(crate) fn inodes_are_good<S: Store>(store: &S, superblock: &Block) -> Result<bool, Fault>
+    requires live { ⌜ isOk (allLive (S·Store .marks (now store))) ≡ true ⌝ }
+    requires read { ⌜ now superblock ≡ superOf (S·Store .blocks (now store)) ⌝ }
+    requires sizes { ⌜ s1 (S·Store .blocks (now store)) ≡ true ⌝ }
+    ensures { λ r. ⌜ r ≡ Ok (s4 (S·Store .blocks (now (store .entry)))) ⌝ }
+{
+    every_inode(store, isize_of(superblock) as usize, FreeOrPlain)
+}
+
+// The fifth rule: the addresses of each allocated inode are good.
+pub(crate) fn addresses_are_good<S: Store>(store: &S, superblock: &Block) -> Result<bool, Fault>
+    requires live { ⌜ isOk (allLive (S·Store .marks (now store))) ≡ true ⌝ }
+    requires read { ⌜ now superblock ≡ superOf (S·Store .blocks (now store)) ⌝ }
+    requires sizes { ⌜ s1 (S·Store .blocks (now store)) ≡ true ⌝ }
+    ensures { λ r. ⌜ r ≡ Ok (s5 (S·Store .blocks (now (store .entry)))) ⌝ }
+{
+    let isize = isize_of(superblock);
+    let count = store.count();
+    every_inode(store, isize as usize, Addressed { isize, count })
 }
 
 // The sixth rule: each data block stands exactly once in the free list and the addresses of the allocated inodes.
