@@ -6,8 +6,8 @@ use Prim.Native.Nat.{ℕ, _+_, _-_, _*_, _<_, _≤_}
 use native.Mathlib.Omega.{arith}
 use borrow.Author.Needs.{needs}
 use borrow.Rule.Slice.PartMut.{putMid}
-use lib.ListN.{length, getD, take, drop, set}
-use Rattle.std.proofs.shelf.Lists.{places, ext-getD, getD-take, getD-drop, length-set, getD-set-same, getD-set-other}
+use lib.ListN.{length, getD, take, drop, set, replicate}
+use Rattle.std.proofs.shelf.Lists.{places, ext-getD, getD-take, getD-drop, length-set, getD-set-same, getD-set-other, getD-replicate, length-replicate, drop-replicate, take-replicate}
 use Rattle.std.proofs.shelf.Parts.{drop-putMid, between-putMid}
 use Rattle.std.proofs.shelf.Tests.{cases-order, cases-eq}
 use Rattle.store.specs.Plain.{wholeBlocks, blockOf, cut, tail, length-cut, getD-cut, length-blockOf}
@@ -75,3 +75,14 @@ module _ (bytes : List ℕ) (n k : ℕ) (b : Block) (within : n < wholeBlocks (l
   pub tail-put : tail (putMid (512 * n) k bytes b) ≡ tail bytes
   tail-put =
       ap (λ len. drop (512 * wholeBlocks len) (putMid (512 * n) k bytes b)) length-put ∙ drop-putMid (512 * n) k bytes b (512 * wholeBlocks (length bytes)) (omega arith) (omega (arith, fits)) (size ∙ sym whole)
+
+-- a memory of zeros shows blocks of zeros
+pub cut-zeros : (k : ℕ) → k ≤ 1048576 → cut (replicate (512 * k) 0) ≡ replicate k (replicate 512 0)
+cut-zeros k most =
+    let long = length-replicate {A = ℕ} (512 * k) 0 in
+    let count = length-cut (replicate (512 * k) 0) in
+    let blocks = length-replicate {A = Block} k (replicate 512 0) in
+    ext-getD [] (cut (replicate (512 * k) 0)) (replicate k (replicate 512 0)) (omega arith)
+    (λ n lt.
+    getD-cut (replicate (512 * k) 0) n [] (omega arith) ∙ ap (take 512) (drop-replicate {X = ℕ} (512 * n) (512 * k) 0) ∙ take-replicate {X = ℕ} 512 (512 * k - 512 * n) 0 (omega arith) ∙
+    sym (getD-replicate {A = Block} k n (replicate 512 0) [] (omega arith)))

@@ -20,6 +20,7 @@ pub struct Pocket {
 
 impl Pocket {
     pub fn new() -> Pocket
+        ensures blocks { λ r. ⌜ pocket-blocks r ≡ replicate 16 (replicate 512 0) ⌝ }
         ensures contents { λ r. ⌜ pocket-bytes r ≡ replicate 8192 0 ⌝ }
         ensures condemned { λ r. ⌜ pocket-condemned r ≡ [] ⌝ }
     {
