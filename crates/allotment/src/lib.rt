@@ -1,4 +1,6 @@
 // Volumes formatted, and the steps on blocks, records and the free list that the calls which change files are made of.
+#![tactic(auto)]
+
 pub mod blocks;
 pub mod contents;
 pub mod format;

@@ -1,4 +1,6 @@
 // Edges, refusals and worked cases, each compared with the value that the rules give.
+#![tactic(auto)]
+
 use anyhow::anyhow;
 
 mod key_tables;

@@ -1,4 +1,6 @@
 // Why a call was refused: the question it failed and the place the failure names.
+#![tactic(auto)]
+
 ghost use Rattle.std.specs.Prelude.{◌≡◌};
 ghost use Rattle.faults.specs.Faults.{number_of, bare, past_count, dead_block, unsound, renumbered};
 

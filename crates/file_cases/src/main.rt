@@ -1,4 +1,6 @@
 // The calls on files: scripts of calls on a volume, each step with the outcome that the rules give.
+#![tactic(auto)]
+
 use anyhow::anyhow;
 
 mod contents;

@@ -3,7 +3,7 @@ use Rattle.std.proofs.Common.{◌≡◌, ℕ, zero, suc, ◌<◌, eqb, ◌⊎◌
 use Rattle.std.proofs.lemmas.Bool.{eq-eqb, ne_eqb, cond-true, cond-false}
 use Rattle.keys.specs.Algebra.{KeyAlgebra}
 use Rattle.keys.specs.Field.{Field}
-use Rattle.keys.specs.Vectors.{sum, dot, unit, OrthonormalVectors, FitsVectors, left_over, Closed}
+use Rattle.keys.specs.Vectors.{sum, dot, unit, Orthonormal-vectors, Fits-vectors, left_over, Closed}
 use Rattle.keys.proofs.Sums.{one-mul, mul-zero, same_from-sum, one-from_square, sum_same, sum-none, sum-single, sum-add, sum-mul, sum-swap, sum-square, dot-comm, dot-add, dot-mul, dot-sum}
 
 module _ {F : Type 0} (f : Field F) where
@@ -43,7 +43,7 @@ module _ {F : Type 0} (f : Field F) where
 
   module _ (k n : ℕ) (us : ℕ → ℕ → F) where
     -- if the vectors sum to ones, what is orthogonal to all of them has product 0 with itself
-    pub closed_none : Closed f k n us → (v : ℕ → F) → FitsVectors f k n us v → ⊥
+    pub closed_none : Closed f k n us → (v : ℕ → F) → Fits-vectors f k n us v → ⊥
     closed_none closed v fits =
         f.one_zero (sym fits.own ∙ dot-self k v ∙ ap (λ x. f.mul x x) entries ∙ mul-zero f f.zero)
       where
@@ -54,7 +54,7 @@ module _ {F : Type 0} (f : Field F) where
             dot-sum f k n v (λ j. f.one) us ∙
             sum-none f n (λ j. f.mul f.one (dot f k v (us j))) (λ j below. ap (f.mul f.one) (dot-comm f k v (us j) ∙ fits.others j below) ∙ mul-zero f f.one)
 
-    module _ (orthonormal : OrthonormalVectors f k n us) where
+    module _ (orthonormal : Orthonormal-vectors f k n us) where
       -- the remainder is orthogonal to every one of the vectors
       pub left_over_orthogonal : (v : ℕ → F) (m : ℕ) → m < n → dot f k (us m) (left_over f k n us v) ≡ f.zero
       left_over_orthogonal v m lt =
@@ -67,7 +67,7 @@ module _ {F : Type 0} (f : Field F) where
           f.add_self (dot f k (us m) v)
 
       -- so it is orthonormal to them when its product with itself is 1
-      pub left_over_fits : (v : ℕ → F) → dot f k (left_over f k n us v) (left_over f k n us v) ≡ f.one → FitsVectors f k n us (left_over f k n us v)
+      pub left_over_fits : (v : ℕ → F) → dot f k (left_over f k n us v) (left_over f k n us v) ≡ f.one → Fits-vectors f k n us (left_over f k n us v)
       left_over_fits v e = record { own = e; others = left_over_orthogonal v }
 
       -- the remainder of unit vector i has as sum of its entries 1 plus entry i of the sum of the vectors
@@ -83,7 +83,7 @@ module _ {F : Type 0} (f : Field F) where
           f.mul-one (us j i)))
 
       -- a remainder whose entries do not sum to 0 is orthonormal to the vectors once it is divided by that sum
-      pub divided_fits : (v : ℕ → F) → (sum f k (left_over f k n us v) ≡ f.zero → ⊥) → FitsVectors f k n us (λ p. f.mul (f.inv (sum f k (left_over f k n us v))) (left_over f k n us v p))
+      pub divided_fits : (v : ℕ → F) → (sum f k (left_over f k n us v) ≡ f.zero → ⊥) → Fits-vectors f k n us (λ p. f.mul (f.inv (sum f k (left_over f k n us v))) (left_over f k n us v p))
       divided_fits v some =
           let r = left_over f k n us v in
           let c = sum f k r in
@@ -99,7 +99,7 @@ module _ {F : Type 0} (f : Field F) where
       unit-left_over i lt differs e = differs (same_from-sum f f.one (sum f n (λ j. us j i)) (sym (sum-left_over i lt) ∙ e))
 
       -- the vectors sum to ones, or a further vector is orthonormal to all of them
-      pub closed_or_fits : Closed f k n us ⊎ ((v : ℕ → F) × FitsVectors f k n us v)
+      pub closed_or_fits : Closed f k n us ⊎ ((v : ℕ → F) × Fits-vectors f k n us v)
       closed_or_fits =
           ⊎_elim inl
           (λ place. inr (_, divided_fits (unit f place.0) (unit-left_over place.0 place.1 place.2)))

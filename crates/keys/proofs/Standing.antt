@@ -7,7 +7,7 @@ use Rattle.std.proofs.lemmas.Bool.{eqb-true, eqb-false, eq-eqb, cases_eq, cond_b
 use Rattle.keys.specs.Bits.{either, bits, entry}
 use Rattle.keys.specs.Calls.{SaysFits}
 use Rattle.keys.specs.Keys.{parity, product, reduced, remainder, key_sum, full, orthogonal, fits, Fits, Own, Others, Below, Orthonormal}
-use Rattle.keys.specs.Vectors.{sum, dot, left_over, OrthonormalVectors, FitsVectors, Closed}
+use Rattle.keys.specs.Vectors.{sum, dot, left_over, Orthonormal-vectors, Fits-vectors, Closed}
 use Rattle.keys.proofs.Entries.{product-dot, entry-reduced, entry-key_sum, entry-ones, same_from_entries, number, number-below, entry-number}
 use Rattle.keys.proofs.Remainders.{left_over_orthogonal, closed_none, closed_or_fits}
 use Rattle.keys.proofs.Sums.{sum_same}
@@ -44,7 +44,7 @@ module _ (k : ℕ) (keys : List ℕ) (below : Below k keys) where
   dot-is : (i v : ℕ) → i < length keys → dot bits k (vectors keys i) (entry v) ≡ eqb (product (get_or keys i 0) v) 1
   dot-is i v lt = sym (product-dot k (get_or keys i 0) v (below i lt))
 
-  vectors-fit : (v : ℕ) → v < 2 ^ k → Fits keys v → FitsVectors bits k (length keys) (vectors keys) (entry v)
+  vectors-fit : (v : ℕ) → v < 2 ^ k → Fits keys v → Fits-vectors bits k (length keys) (vectors keys) (entry v)
   vectors-fit v lt h = record {
     own = sym (product-dot k v v lt) ∙ eq-eqb (product v v) 1 h.own;
     others = λ i in'. dot-is i v in' ∙ ap (λ n. eqb n 1) (h.others i in');
@@ -63,7 +63,7 @@ module _ (k : ℕ) (keys : List ℕ) (below : Below k keys) where
   full-none e v lt h = closed_none bits k (length keys) (vectors keys) (closed_from (eqb-true (key_sum keys) (2 ^ k - 1) e)) (entry v) (vectors-fit v lt h)
 
   module _ (orthonormal : Orthonormal keys) where
-    pub vectors-orthonormal : OrthonormalVectors bits k (length keys) (vectors keys)
+    pub vectors-orthonormal : Orthonormal-vectors bits k (length keys) (vectors keys)
     vectors-orthonormal = record {
       own = λ i lt. dot-is i (get_or keys i 0) lt ∙ eq-eqb (product (get_or keys i 0) (get_or keys i 0)) 1 (orthonormal.own i lt);
       others = λ i j li lj other. dot-is i (get_or keys j 0) li ∙ ap (λ n. eqb n 1) (orthonormal.others i j (li, lj, other));
@@ -95,7 +95,7 @@ module _ (k : ℕ) (keys : List ℕ) (below : Below k keys) where
         (λ found. (number k found.0, number-below k found.0, numbers_fit found.0 found.1))
         (closed_or_fits bits k (length keys) (vectors keys) vectors-orthonormal)
       where
-        numbers_fit : (w : ℕ → Bool) → FitsVectors bits k (length keys) (vectors keys) w → Fits keys (number k w)
+        numbers_fit : (w : ℕ → Bool) → Fits-vectors bits k (length keys) (vectors keys) w → Fits keys (number k w)
         numbers_fit w h = record {
           own =
               eqb-true _ 1

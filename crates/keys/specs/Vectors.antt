@@ -17,12 +17,12 @@ module _ {F : Type 0} (f : Field F) where
   unit i p = cond (p == i) f.one f.zero
 
   -- Of n vectors us: each has product 1 with itself and 0 with every other.
-  pub record OrthonormalVectors (k n : ℕ) (us : ℕ → ℕ → F) : Type 0 where
+  pub record Orthonormal-vectors (k n : ℕ) (us : ℕ → ℕ → F) : Type 0 where
     pub own : (i : ℕ) → i < n → dot k (us i) (us i) ≡ f.one
     pub others : (i j : ℕ) → i < n → j < n → (i ≢ j) → dot k (us i) (us j) ≡ f.zero
 
   -- A further vector v is orthonormal to them.
-  pub record FitsVectors (k n : ℕ) (us : ℕ → ℕ → F) (v : ℕ → F) : Type 0 where
+  pub record Fits-vectors (k n : ℕ) (us : ℕ → ℕ → F) (v : ℕ → F) : Type 0 where
     pub own : dot k v v ≡ f.one
     pub others : (i : ℕ) → i < n → dot k (us i) v ≡ f.zero
 

@@ -1,4 +1,6 @@
 // Keys over the covers of a wallet: their algebra and the table of the standing ones.
+#![tactic(auto)]
+
 mod algebra;
 pub mod laws;
 pub mod table;

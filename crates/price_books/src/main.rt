@@ -1,4 +1,6 @@
 // Keeps price books as files of a volume in a plain store, then hides them in the levels of one set of covers.
+#![tactic(auto)]
+
 mod books;
 mod hiding;
 mod keeping;

@@ -1,4 +1,6 @@
 // Files found by name, listed and read, over any store.
+#![tactic(auto)]
+
 pub mod file;
 pub mod list;
 pub mod lookup;

@@ -1,4 +1,6 @@
 // Stores of 512-byte blocks: what one means, and the kinds there are.
+#![tactic(auto)]
+
 mod condemned;
 pub mod image;
 pub mod interface;

@@ -1,4 +1,6 @@
 // Counting the cases of a test program: how many were tried, and which went wrong.
+#![tactic(auto)]
+
 ghost use Rattle.std.specs.Prelude.{◌≡◌, IfOk, ◌==◌};
 ghost use Rattle.tally.specs.Answers.{number_in};
 ghost use Rattle.tally.specs.Counts.{one_more, unless_same};

@@ -1,4 +1,6 @@
 // The volume in a store, and whether it is sound.
+#![tactic(auto)]
+
 pub mod check;
 pub mod contents;
 pub mod directory;

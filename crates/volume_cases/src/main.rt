@@ -1,4 +1,6 @@
 // Sound and broken volumes, each compared with the rule that it breaks first.
+#![tactic(auto)]
+
 use anyhow::anyhow;
 
 mod base;

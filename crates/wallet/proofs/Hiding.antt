@@ -3,7 +3,7 @@ use Rattle.std.proofs.Common.{◌≡◌, ℕ, zero, suc, ◌+◌, ◌-◌, ◌*�
 use lib.Bits.{bit_xor, xor_assoc, xor_comm, xor_self, xor_zero_r, xor_lt}
 use Rattle.std.proofs.lemmas.Bool.{cond_both, cases_eq}
 use Rattle.keys.specs.Field.{Field}
-use Rattle.keys.specs.Vectors.{dot, OrthonormalVectors}
+use Rattle.keys.specs.Vectors.{dot, Orthonormal-vectors}
 use Rattle.store.specs.Stores.{Block}
 use Rattle.wallet.specs.Each.{byte_at}
 use Rattle.wallet.specs.Levels.{byte_sum, changed, shown_byte, shown}
@@ -54,7 +54,7 @@ module _ {F : Type 0} (f : Field F) where
   byte_sum-below keeps (suc n) u a lt = xor_lt 8 (f.act (u 0) (a 0)) (byte_sum f n (λ j. u (suc j)) (λ j. a (suc j))) (keeps (u 0) (a 0) (lt 0 (omega arith))) (byte_sum-below keeps n (λ j. u (suc j)) (λ j. a (suc j)) (λ j below. lt (suc j) (omega arith)))
 
   -- m orthonormal keys, of which those from d on are hidden
-  module _ (c : Covers) (us : ℕ → ℕ → F) (d m : ℕ) (orthonormal : OrthonormalVectors f c.count m us) (e : ℕ → ℕ → ℕ → ℕ) where
+  module _ (c : Covers) (us : ℕ → ℕ → F) (d m : ℕ) (orthonormal : Orthonormal-vectors f c.count m us) (e : ℕ → ℕ → ℕ → ℕ) where
     -- the hidden levels' parts, summed along the key of one of them, leave its own part
     pub own_part : (j b p : ℕ) → d ≤ j → j < m → byte_sum f c.count (us j) (λ i. hidden_sum f us d m e i b p) ≡ e j b p
     own_part j b p from below =

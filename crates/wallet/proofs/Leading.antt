@@ -5,7 +5,7 @@ use Rattle.std.proofs.lemmas.List.{length-append, get_or_append_left, get_or-app
 use Rattle.std.proofs.lemmas.Bool.{cases_eq, cases_lt, cond-true, cond-false, eq-eqb, ne_eqb, lt-ltb, and_left, and_right, and_from, or_left, or_right}
 use Rattle.keys.specs.Bits.{bits, entry}
 use Rattle.keys.specs.Field.{Field}
-use Rattle.keys.specs.Vectors.{OrthonormalVectors}
+use Rattle.keys.specs.Vectors.{Orthonormal-vectors}
 use Rattle.store.specs.Stores.{Block, Mark, live, dead, judged, asked, all_live}
 use Rattle.store.proofs.Asking.{asked-within, asked-from_all}
 use Rattle.wallet.specs.Each.{each, byte_at, length-each, get_or-each, each-is}
@@ -19,7 +19,7 @@ use Rattle.wallet.proofs.PlaceLaws.{place-covered, below_all, uncovered}
 use Rattle.wallet.proofs.Summing.{each_same, byte_sum-same, act_none}
 use Rattle.wallet.proofs.Xors.{xor_again}
 
-module _ {F : Type 0} (f : Field F) (c : Covers) (us : ℕ → ℕ → F) (d m : ℕ) (orthonormal : OrthonormalVectors f c.count m us) (first second : ℕ → List Block)
+module _ {F : Type 0} (f : Field F) (c : Covers) (us : ℕ → ℕ → F) (d m : ℕ) (orthonormal : Orthonormal-vectors f c.count m us) (first second : ℕ → List Block)
     (bs : List Block) (enough : c.count * c.blocks ≤ length bs) (shows : Shows f c us d m first bs) where
   -- What each level has added once some puts are done.
   abbrev part_of : Puts → ℕ → ℕ → ℕ → ℕ
@@ -167,7 +167,7 @@ only : (x : Bool) → (x || false) ≡ true → x ≡ true
 only true e = refl
 only false e = e
 
-module _ (c : Covers) (d : ℕ) (keys : List ℕ) (orthonormal : OrthonormalVectors bits c.count (length keys) (key_vectors keys)) (first second : ℕ → List Block)
+module _ (c : Covers) (d : ℕ) (keys : List ℕ) (orthonormal : Orthonormal-vectors bits c.count (length keys) (key_vectors keys)) (first second : ℕ → List Block)
     (bs : List Block) (enough : c.count * c.blocks ≤ length bs) (shows : Shows bits c (key_vectors keys) d (length keys) first bs) where
   abbrev reaching_by : Puts → List Block
   reaching_by done = reaching bits c (key_vectors keys) d (length keys) orthonormal first second bs enough shows done
@@ -201,7 +201,7 @@ module _ (c : Covers) (d : ℕ) (keys : List ℕ) (orthonormal : OrthonormalVect
       in
       ((accepted, rest.0), rest.1)
 
-module _ (c : Covers) (d : ℕ) (keys : List ℕ) (orthonormal : OrthonormalVectors bits c.count (length keys) (key_vectors keys)) (first second : ℕ → List Block) where
+module _ (c : Covers) (d : ℕ) (keys : List ℕ) (orthonormal : Orthonormal-vectors bits c.count (length keys) (key_vectors keys)) (first second : ℕ → List Block) where
   pub puts_lead : PutsLead c d keys first second
   unfolding partner
   puts_lead w set rest puts covers ks blocks paired alive cover-set further shows hidden all =

@@ -3,7 +3,7 @@ use Rattle.std.proofs.Common.{◌≡◌, ℕ, ◌+◌, ◌-◌, ◌*◌, ◌<◌
 use lib.Bits.{bit_xor, xor_comm, xor_self, xor_lt}
 use Rattle.std.proofs.lemmas.Bool.{cases_Bool}
 use Rattle.keys.specs.Field.{Field}
-use Rattle.keys.specs.Vectors.{OrthonormalVectors}
+use Rattle.keys.specs.Vectors.{Orthonormal-vectors}
 use Rattle.store.specs.Stores.{Block}
 use Rattle.wallet.specs.Each.{byte_at}
 use Rattle.wallet.specs.Levels.{changed, shown_byte, shown}
@@ -14,7 +14,7 @@ use Rattle.wallet.proofs.Hiding.{byte_sum-below, shown_byte-own, shown_byte-disc
 use Rattle.wallet.proofs.PlaceLaws.{block_at-below}
 use Rattle.wallet.proofs.Xors.{xor_again, xor_undo}
 
-module _ {F : Type 0} (f : Field F) (keeps : (x : F) (b : ℕ) → b < 256 → f.act x b < 256) (c : Covers) (us : ℕ → ℕ → F) (d m : ℕ) (orthonormal : OrthonormalVectors f c.count m us)
+module _ {F : Type 0} (f : Field F) (keeps : (x : F) (b : ℕ) → b < 256 → f.act x b < 256) (c : Covers) (us : ℕ → ℕ → F) (d m : ℕ) (orthonormal : Orthonormal-vectors f c.count m us)
     (first second : ℕ → List Block) (one : HiddenContents c d m first) (two : HiddenContents c d m second) where
   abbrev added : ℕ → ℕ → ℕ → ℕ
   added = hidden_sum f us d m (both_of first second)

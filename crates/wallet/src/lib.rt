@@ -1,4 +1,6 @@
 // A wallet: covers laid out over any store, and levels that its keys show in them.
+#![tactic(auto)]
+
 mod exclusive_or;
 pub mod laws;
 mod layout;

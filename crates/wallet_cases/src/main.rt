@@ -1,4 +1,6 @@
 // Wallets at their edges, and a wide set of long covers, each compared with the value that the rules give.
+#![tactic(auto)]
+
 use anyhow::anyhow;
 
 mod dead_covers;

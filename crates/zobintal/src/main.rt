@@ -1,4 +1,6 @@
 // Lays a price list into a stripe of two stores, past a dead block, and reads it back; then opens levels by their keys.
+#![tactic(auto)]
+
 mod filing;
 mod opening;
 mod price_list;
