@@ -1,12 +1,12 @@
 -- Laws of the free list's steps: giving back pushes a number, taking pops the last one.
-use Rattle.std.proofs.Common.{◌≡◌, ℕ, zero, suc, ◌+◌, ◌-◌, ◌*◌, ◌<◌, ◌≤◌, List, [], ◌∷◌, ◌++◌, map, reverse, length, get_or, set, replicate, sym, refl, ap, ◌∙◌, ⊎_elim, add-one, arith}
+use Rattle.std.proofs.Common.{◌≡◌, ℕ, zero, suc, ◌+◌, ◌-◌, ◌*◌, ◌<◌, ◌≤◌, List, [], ◌∷◌, ◌++◌, reverse, length, get_or, set, replicate, sym, refl, ap, ◌∙◌, ⊎_elim, add-one, arith}
 use Rattle.std.proofs.lemmas.List.FromFn.{length-map-range_with_len, map-range_with_len_more}
 use Rattle.std.proofs.lemmas.List.{ext_get_or, get_or_append_left, get_or_push, length_push, append-nil, append_assoc, reverse-append, map-id, set_at}
 use Rattle.std.proofs.lemmas.Bool.{cases_lt}
 use Rattle.std.specs.List.{range_with_len}
 use Rattle.store.specs.Stores.{Block}
 use Rattle.layout.specs.Superblocks.{nfree_of, free_at, free_list}
-use Rattle.layout.specs.Words.{word_at, with_word}
+use Rattle.layout.specs.Words.{with_word}
 use Rattle.volume.proofs.FreeLists.{length-free_list, get_or-free_list}
 use Rattle.allotment.proofs.Written.{length-with_word, word_at-same, word_at-other}
 use Rattle.allotment.specs.FreeSteps.{given, gives, taken, next_free, takes, numbers_taken}

@@ -1,5 +1,5 @@
 -- What a call that changes a store promises, by its answer and the blocks that it leaves.
-use Rattle.std.specs.Prelude.{◌≡◌, Bool, true, false, cond, List, length, is_ok, Ok, Err, Result}
+use Rattle.std.specs.Prelude.{◌≡◌, false, List, is_ok, Ok, Err, Result}
 use Rattle.store.specs.Stores.{Block, Mark}
 use Rattle.faults.specs.declared.Fault.{Fault}
 

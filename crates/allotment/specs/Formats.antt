@@ -1,5 +1,5 @@
 -- A new volume.
-use Rattle.std.specs.Prelude.{ℕ, ◌+◌, ◌-◌, Bool, ◌&&◌, List, [], ◌∷◌, reverse, length, replicate, Result, nat_le, slice_set}
+use Rattle.std.specs.Prelude.{ℕ, ◌+◌, ◌-◌, Bool, ◌&&◌, List, ◌∷◌, reverse, length, replicate, Result, nat_le, slice_set}
 use Rattle.std.specs.List.{range_with_len}
 use Rattle.faults.specs.Faults.{bare}
 use Rattle.store.specs.Stores.{Block, Mark, all_live}

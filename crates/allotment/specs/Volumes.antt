@@ -1,5 +1,5 @@
 -- Steps that change one block of a volume, or the blocks of one file.
-use Rattle.std.specs.Prelude.{ℕ, zero, suc, ◌+◌, ◌-◌, ◌*◌, ◌/◌, ◌%◌, List, [], ◌++◌, length, take, drop, replicate, slice_index, slice_index_or, slice_set}
+use Rattle.std.specs.Prelude.{ℕ, zero, suc, ◌-◌, ◌*◌, ◌/◌, ◌%◌, List, [], ◌++◌, length, take, drop, replicate, slice_index, slice_index_or, slice_set}
 use Rattle.store.specs.Stores.{Block}
 use Rattle.layout.specs.Inodes.{inode_block, inode_place}
 use Rattle.layout.specs.Words.{with_word}

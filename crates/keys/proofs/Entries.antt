@@ -4,7 +4,7 @@ use lib.Bits.{bit_and, bit_xor, and_mod, and_shr, xor_mod, xor_shr, and_le_l}
 use lib.Count.{ones, ones_in, ones_step}
 use Rattle.std.proofs.lemmas.Bool.{eqb-true, eqb-false, eq-eqb, ne_eqb, cases_Bool, cond_both, true≢false}
 use Rattle.keys.specs.Bits.{either, bits, entry, either_assoc, either_false}
-use Rattle.keys.specs.Keys.{parity, product, reduced, remainder, key_sum}
+use Rattle.keys.specs.Keys.{parity, product, reduced, key_sum}
 use Rattle.keys.specs.Vectors.{sum, dot}
 use Rattle.keys.proofs.Sums.{sum_same}
 

@@ -1,5 +1,5 @@
 -- Laws of orthonormal keys as numbers, from those of vectors over the field of bits.
-use Rattle.std.proofs.Common.{◌≡◌, ℕ, zero, suc, ◌+◌, ◌-◌, ◌%◌, ◌^◌, ◌<◌, Bool, true, false, cond, ◌&&◌, eqb, ◌⊎◌, List, [], ◌∷◌, ◌++◌, length, get_or, sym, refl, ap, ◌∙◌, ap₂, inl, inr, ⊎_elim, arith, pow_pos}
+use Rattle.std.proofs.Common.{◌≡◌, ℕ, zero, suc, ◌-◌, ◌%◌, ◌^◌, ◌<◌, Bool, true, false, cond, ◌&&◌, eqb, ◌⊎◌, List, [], ◌∷◌, ◌++◌, length, get_or, sym, refl, ap, ◌∙◌, ap₂, inl, inr, ⊎_elim, arith, pow_pos}
 use lib.Bits.{bit_xor, and_comm, and_self, xor_lt}
 use lib.Pow.{ones_lt}
 use Rattle.std.proofs.lemmas.List.{length_push, get_or_push, get_or_append_left}
@@ -7,7 +7,7 @@ use Rattle.std.proofs.lemmas.Bool.{eqb-true, eqb-false, eq-eqb, cases_eq, cond_b
 use Rattle.keys.specs.Bits.{either, bits, entry}
 use Rattle.keys.specs.Calls.{SaysFits}
 use Rattle.keys.specs.Keys.{parity, product, reduced, remainder, key_sum, full, orthogonal, fits, Fits, Own, Others, Below, Orthonormal}
-use Rattle.keys.specs.Vectors.{sum, dot, left_over, Orthonormal-vectors, Fits-vectors, Closed}
+use Rattle.keys.specs.Vectors.{dot, left_over, Orthonormal-vectors, Fits-vectors, Closed}
 use Rattle.keys.proofs.Entries.{product-dot, entry-reduced, entry-key_sum, entry-ones, same_from_entries, number, number-below, entry-number}
 use Rattle.keys.proofs.Remainders.{left_over_orthogonal, closed_none, closed_or_fits}
 use Rattle.keys.proofs.Sums.{sum_same}

@@ -1,5 +1,5 @@
 -- Laws of sums and products of vectors over any field in which 1 + 1 is 0.
-use Rattle.std.proofs.Common.{◌≡◌, ℕ, zero, suc, ◌<◌, ◌⊎◌, sym, refl, ap, ◌∙◌, ap₂, ⊎_elim, arith}
+use Rattle.std.proofs.Common.{◌≡◌, ℕ, zero, suc, ◌<◌, sym, refl, ap, ◌∙◌, ap₂, ⊎_elim, arith}
 use Rattle.keys.specs.Field.{Field}
 use Rattle.keys.specs.Vectors.{sum, dot}
 

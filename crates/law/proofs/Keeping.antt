@@ -9,8 +9,8 @@ use Rattle.std.proofs.lemmas.Bool.{eqb-true, leb-true, ltb-true, cond_both, case
 use Rattle.store.specs.Stores.{Block}
 use Rattle.faults.specs.declared.Fault.{Fault}
 use Rattle.wallet.specs.Places.{Covers}
-use Rattle.wallet.specs.Wallets.{State, in_limits, lay_out_answer, with_covers, with_keys, with_chosen, key_call, stands, key_at, filled_under}
-use Rattle.law.specs.Runs.{Call, lay_out, add_key, take_key, disclose, choose, by_level, by_store, changed_by, asking, store_call, step, run, New, SoundWallet}
+use Rattle.wallet.specs.Wallets.{State, in_limits, lay_out_answer, with_covers, with_keys, with_chosen, key_call, stands, filled_under}
+use Rattle.law.specs.Runs.{Call, lay_out, add_key, take_key, disclose, choose, by_level, by_store, changed_by, store_call, step, run, New, SoundWallet}
 use Rattle.law.specs.Services.{Answer, Service}
 use Rattle.law.proofs.Showing.{length-refilled, whole-refilled}
 

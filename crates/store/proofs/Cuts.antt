@@ -1,5 +1,5 @@
 -- A write over one block's bytes of a memory, and what the memory's blocks are then.
-use Rattle.std.proofs.Common.{◌≡◌, ℕ, ◌+◌, ◌-◌, ◌*◌, ◌<◌, ◌≤◌, List, [], length, get_or, take, drop, set, replicate, sym, refl, ap, ◌∙◌, ⊎_elim, arith, rules}
+use Rattle.std.proofs.Common.{◌≡◌, ℕ, ◌+◌, ◌-◌, ◌*◌, ◌<◌, ◌≤◌, List, [], length, get_or, take, drop, set, replicate, sym, ap, ◌∙◌, ⊎_elim, arith, rules}
 use borrow.Rule.Slice.PartMut.{put_mid}
 use Rattle.std.proofs.lemmas.List.{places, ext_get_or, get_or-take, get_or-drop, length-set, get_or-set_same, get_or-set_other, get_or-replicate, length-replicate, drop-replicate, take-replicate}
 use Rattle.std.proofs.lemmas.Slice.{drop-put_mid, between-put_mid}

@@ -1,8 +1,8 @@
 -- A call on a stripe is the call on the part that has the block.
-use Rattle.std.proofs.Common.{◌≡◌, ℕ, ◌/◌, ◌%◌, ◌<◌, ◌≤◌, Bool, true, false, cond, List, [], length, get_or, set, is_ok, Ok, Err, Result, sym, refl, ap, ◌∙◌, arith}
+use Rattle.std.proofs.Common.{◌≡◌, ℕ, ◌/◌, ◌%◌, ◌<◌, ◌≤◌, cond, List, [], length, get_or, set, is_ok, Err, Result, sym, refl, ap, ◌∙◌, arith}
 use Rattle.store.proofs.Turns.{is_ok-from_part, get_or-even, get_or-odd, asked-striped-past, asked-even, asked-odd, after_even, after_odd, rest_kept}
 use Rattle.faults.specs.Faults.{past_count}
-use Rattle.store.specs.Stores.{Block, Mark, live, asked, Laws, Fetched, Placed}
+use Rattle.store.specs.Stores.{Block, Mark, asked, Laws, Fetched, Placed}
 use Rattle.store.specs.Stripes.{stripe_count, from_part, length_striped, stripe_blocks, stripe_marks, StripeMoved}
 use Rattle.faults.specs.declared.Fault.{Fault}
 use Rattle.store.specs.declared.stripe.Stripe.{Stripe}

@@ -1,10 +1,10 @@
 -- Laws of two lists in turn: what is asked of a stripe is asked of a part, and what is set in it is set in a part.
-use Rattle.std.proofs.Common.{◌≡◌, ℕ, ◌/◌, ◌%◌, ◌<◌, ◌≤◌, Bool, true, false, cond, eqb, List, [], length, get_or, drop, set, is_ok, Ok, Err, Result, sym, refl, ap, ◌∙◌, ⊎_elim, arith}
+use Rattle.std.proofs.Common.{◌≡◌, ℕ, ◌/◌, ◌%◌, ◌<◌, ◌≤◌, Bool, true, false, cond, eqb, List, length, get_or, drop, set, is_ok, Ok, Err, Result, sym, refl, ap, ◌∙◌, ⊎_elim, arith}
 use Rattle.std.proofs.lemmas.List.{ext_get_or, length-set, get_or-set_same, get_or-set_other, drop-set-lt}
-use Rattle.std.proofs.lemmas.Bool.{eq-eqb, ne_eqb, cond-true, cond-false, cond_both, cases_eq, cases_Bool}
+use Rattle.std.proofs.lemmas.Bool.{eq-eqb, ne_eqb, cond-true, cond-false, cases_eq}
 use Rattle.store.proofs.Asking.{asked-past, asked-within}
 use Rattle.faults.specs.Faults.{past_count}
-use Rattle.store.specs.Stores.{Block, Mark, live, dead, judged, asked}
+use Rattle.store.specs.Stores.{Mark, live, dead, judged, asked}
 use Rattle.store.specs.Stripes.{stripe_count, in_turn, striped, from_part, length_striped, get_or_striped}
 use Rattle.faults.specs.declared.Fault.{Fault}
 

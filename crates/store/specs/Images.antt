@@ -1,6 +1,6 @@
 -- What an image store means: the whole blocks of the caller's memory.
 use Rattle.std.specs.Prelude.{◌≡◌, ℕ, List, length, refl}
-use Rattle.std.proofs.Common.{ap, ◌∙◌}
+use Rattle.std.proofs.Common.{◌∙◌}
 use Rattle.store.specs.declared.image.Image.{Image}
 use Rattle.store.specs.Condemned.{listed}
 use Rattle.store.specs.Plain.{cut, tail, plain_marks, plain_paired, plain_bounded, plain_sized, marks_kept}

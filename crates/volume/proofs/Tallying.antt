@@ -1,7 +1,7 @@
 -- What the counts of a tally say.
-use Rattle.std.proofs.Common.{◌≡◌, ℕ, zero, suc, ◌+◌, ◌*◌, ◌<◌, ◌≤◌, min, Bool, true, false, cond, not, ◌||◌, eqb, List, [], ◌∷◌, length, get_or, set, replicate, sym, refl, ap, ◌∙◌, ⊎_elim, arith}
+use Rattle.std.proofs.Common.{◌≡◌, ℕ, zero, suc, ◌+◌, ◌*◌, ◌<◌, ◌≤◌, min, Bool, true, false, cond, not, ◌||◌, eqb, List, [], ◌∷◌, length, get_or, replicate, sym, refl, ap, ◌∙◌, ⊎_elim, arith}
 use Rattle.std.proofs.lemmas.List.{length-set, get_or-set_same, get_or-set_other, length-replicate, get_or-replicate}
-use Rattle.std.proofs.lemmas.Bool.{eq-eqb, ne_eqb, cond_both, cases_eq}
+use Rattle.std.proofs.lemmas.Bool.{eq-eqb, ne_eqb, cases_eq}
 use Rattle.store.specs.Stores.{Block}
 use Rattle.volume.proofs.Everys.{every-same}
 use Rattle.volume.specs.Every.{every}
@@ -11,7 +11,6 @@ use Rattle.volume.specs.Rules.{held_by, super_of, isize_in, standings, s6}
 use Rattle.layout.specs.Superblocks.{free_list, isize_of, is_data}
 use Rattle.volume.specs.Tallies.{bumped, tallied, tally_after, once_in}
 use Rattle.volume.specs.Visits.{visited}
-use Rattle.layout.specs.declared.inode.Inode.{Inode}
 use Rattle.volume.specs.declared.tally.Tally.{Tally}
 
 pub length-tallied : (counts xs : List ℕ) → length (tallied counts xs) ≡ length counts

@@ -1,5 +1,5 @@
 -- Laws of sums over the numbers below a bound, as loops that count up use them.
-use Rattle.std.proofs.Common.{◌≡◌, ℕ, ◌+◌, sym, refl, ap, ◌∙◌, add-one, arith}
+use Rattle.std.proofs.Common.{◌≡◌, ℕ, ◌+◌, refl, add-one, arith}
 use Rattle.volume.specs.Numbers.{total}
 
 module _ (f : ℕ → ℕ) where

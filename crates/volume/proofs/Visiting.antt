@@ -1,5 +1,5 @@
 -- Going through the inodes block by block is going through them in order.
-use Rattle.std.proofs.Common.{◌≡◌, ℕ, zero, suc, ◌+◌, ◌*◌, ◌<◌, ◌≤◌, Bool, true, List, [], get_or, sym, refl, ap, ◌∙◌, add-one, arith}
+use Rattle.std.proofs.Common.{◌≡◌, ℕ, zero, suc, ◌+◌, ◌*◌, ◌≤◌, Bool, true, List, [], get_or, sym, refl, ap, ◌∙◌, add-one, arith}
 use Rattle.store.specs.Stores.{Block}
 use Rattle.volume.specs.Every.{every}
 use Rattle.layout.specs.Inodes.{inode_at, inode_of, inode_block, inode_place}

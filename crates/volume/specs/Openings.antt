@@ -1,5 +1,5 @@
 -- What opening a volume asks, and what it has then read.
-use Rattle.std.specs.Prelude.{◌≡◌, ℕ, ◌*◌, List, length, take, Some, None, Ok, Err, Option, Result}
+use Rattle.std.specs.Prelude.{◌≡◌, ◌*◌, List, length, take, Some, None, Ok, Err, Option, Result}
 use Rattle.faults.specs.Faults.{unsound}
 use Rattle.store.specs.Stores.{Block, Mark, all_live}
 use Rattle.faults.specs.declared.Fault.{Fault}

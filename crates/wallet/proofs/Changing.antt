@@ -1,8 +1,8 @@
 -- Blocks of covers changed by an exclusive or, and what the levels show then.
-use Rattle.std.proofs.Common.{◌≡◌, ℕ, ◌+◌, ◌<◌, ◌≤◌, Bool, true, false, cond, ◌⊎◌, List, [], length, get_or, set, sym, refl, ap, ◌∙◌, ap₂, inl, inr, ⊎_elim, arith}
-use lib.Bits.{bit_xor, xor_assoc, xor_comm, xor_self, xor_zero_r}
+use Rattle.std.proofs.Common.{◌≡◌, ℕ, ◌<◌, ◌≤◌, true, false, cond, ◌⊎◌, List, [], length, get_or, set, sym, refl, ap, ◌∙◌, ap₂, ⊎_elim, arith}
+use lib.Bits.{bit_xor, xor_assoc, xor_self, xor_zero_r}
 use Rattle.std.proofs.lemmas.List.{get_or_past, get_or-set_same, get_or-set_other}
-use Rattle.std.proofs.lemmas.Bool.{cases_Bool, cases_lt, cond-true, cond-false, cond_both}
+use Rattle.std.proofs.lemmas.Bool.{cases_Bool, cases_lt, cond-true, cond_both}
 use Rattle.keys.specs.Field.{Field}
 use Rattle.keys.specs.Vectors.{dot}
 use Rattle.store.specs.Stores.{Block}

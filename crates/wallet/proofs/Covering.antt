@@ -1,14 +1,14 @@
 -- A cover in a key, and the place of its blocks.
-use Rattle.std.proofs.Common.{◌≡◌, ℕ, zero, suc, ◌+◌, ◌*◌, ◌/◌, ◌%◌, ◌^◌, ◌<◌, ◌≤◌, Bool, true, false, cond, not, ◌&&◌, eqb, ltb, ◌⊎◌, List, length, get_or, is_ok, Ok, Err, Result, sym, refl, ap, ◌∙◌, inl, inr, ⊎_elim, one-add, arith}
+use Rattle.std.proofs.Common.{◌≡◌, ℕ, zero, suc, ◌/◌, ◌%◌, ◌^◌, Bool, true, false, cond, not, ◌&&◌, eqb, ltb, ◌⊎◌, List, length, get_or, is_ok, Ok, Err, Result, sym, refl, ap, ◌∙◌, inl, inr, ⊎_elim, one-add, arith}
 use Rattle.std.proofs.lemmas.Nat.{shr-shr}
-use Rattle.std.proofs.lemmas.Bool.{cond_both, cases_Bool, false≢true, true≢false}
+use Rattle.std.proofs.lemmas.Bool.{cond_both, true≢false}
 use Rattle.keys.specs.Bits.{bits, entry}
 use Rattle.keys.specs.Field.{Field}
-use Rattle.faults.specs.Faults.{past_count, dead_block}
+use Rattle.faults.specs.Faults.{past_count}
 use Rattle.faults.specs.declared.Fault.{Fault}
-use Rattle.store.specs.Stores.{Block, Mark, live, dead, judged, asked}
-use Rattle.wallet.specs.Levels.{in_key, spoils, cover_fine}
-use Rattle.wallet.specs.Places.{Covers, place, is_covered, cover_at, block_at}
+use Rattle.store.specs.Stores.{Mark, live, dead, judged, asked}
+use Rattle.wallet.specs.Levels.{in_key, cover_fine}
+use Rattle.wallet.specs.Places.{place}
 use Rattle.wallet.specs.Standing.{covers_of, key_of, placed_at, cover_answer}
 use Rattle.wallet.specs.declared.level.Level.{Level}
 

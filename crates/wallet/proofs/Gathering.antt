@@ -1,6 +1,6 @@
 -- The blocks of a level's covers, fetched one after another and held.
 use Rattle.std.proofs.Common.{◌≡◌, ℕ, ◌+◌, ◌<◌, Bool, true, cond, ◌&&◌, List, [], length, get_or, set, sym, ap, ◌∙◌, ap₂, ⊎_elim, arith}
-use Rattle.std.proofs.lemmas.List.{length-set, get_or-set_same, get_or-set_other}
+use Rattle.std.proofs.lemmas.List.{get_or-set_same, get_or-set_other}
 use Rattle.std.proofs.lemmas.Bool.{cases_eq, cond-true}
 use Rattle.store.specs.Stores.{Block, Mark}
 use Rattle.wallet.specs.Places.{place}

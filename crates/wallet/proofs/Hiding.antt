@@ -1,18 +1,15 @@
 -- What hidden levels add to the covers: each level shows its own part, and no other level shows it.
-use Rattle.std.proofs.Common.{◌≡◌, ℕ, zero, suc, ◌+◌, ◌-◌, ◌*◌, ◌^◌, ◌<◌, ◌≤◌, Bool, true, false, cond, ◌⊎◌, List, [], length, get_or, sym, refl, ap, ◌∙◌, ap₂, inl, inr, ⊎_elim, arith}
-use lib.Bits.{bit_xor, xor_assoc, xor_comm, xor_self, xor_zero_r, xor_lt}
-use Rattle.std.proofs.lemmas.Bool.{cond_both, cases_eq}
+use Rattle.std.proofs.Common.{◌≡◌, ℕ, zero, suc, ◌+◌, ◌-◌, ◌*◌, ◌<◌, ◌≤◌, List, length, sym, refl, ap, ◌∙◌, ap₂, inl, arith}
+use lib.Bits.{bit_xor, xor_assoc, xor_comm, xor_zero_r, xor_lt}
 use Rattle.keys.specs.Field.{Field}
 use Rattle.keys.specs.Vectors.{dot, Orthonormal-vectors}
 use Rattle.store.specs.Stores.{Block}
-use Rattle.wallet.specs.Each.{byte_at}
-use Rattle.wallet.specs.Levels.{byte_sum, changed, shown_byte, shown}
-use Rattle.wallet.specs.Matched.{BlocksOf, CoverSet, hidden_sum}
-use Rattle.wallet.specs.Places.{Covers, place, is_covered, cover_at, block_at}
-use Rattle.wallet.proofs.Changing.{Reached, change_at, shown_byte-changed}
+use Rattle.wallet.specs.Levels.{byte_sum, changed, shown_byte}
+use Rattle.wallet.specs.Matched.{hidden_sum}
+use Rattle.wallet.specs.Places.{Covers, place}
+use Rattle.wallet.proofs.Changing.{Reached, shown_byte-changed}
 use Rattle.wallet.proofs.PlaceLaws.{place-covered, below_all}
 use Rattle.wallet.proofs.Summing.{byte_sum-same, byte_sum-xor, byte_sum-dot, act_none}
-use Rattle.wallet.proofs.Xors.{xor-four}
 
 module _ {F : Type 0} (f : Field F) where
   pub byte_sum-none : (n : ℕ) (u : ℕ → F) (a : ℕ → ℕ) → ((j : ℕ) → j < n → f.act (u j) (a j) ≡ 0) → byte_sum f n u a ≡ 0

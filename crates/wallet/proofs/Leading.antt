@@ -1,19 +1,19 @@
 -- Level puts of all second contents lead from a set that shows the first to its partner.
-use Rattle.std.proofs.Common.{◌≡◌, ℕ, zero, suc, ◌+◌, ◌-◌, ◌*◌, ◌<◌, ◌≤◌, Bool, true, false, cond, not, ◌&&◌, ◌||◌, eqb, ltb, ◌⊎◌, List, [], ◌∷◌, ◌++◌, length, get_or, set, is_ok, Ok, Err, sym, refl, ap, ◌∙◌, subst, ap₂, inl, inr, ⊎_elim, arith}
-use lib.Bits.{bit_xor, xor_assoc, xor_comm, xor_self, xor_zero_r}
+use Rattle.std.proofs.Common.{◌≡◌, ℕ, zero, suc, ◌+◌, ◌-◌, ◌*◌, ◌<◌, ◌≤◌, Bool, true, false, cond, not, ◌&&◌, ◌||◌, eqb, List, [], ◌∷◌, ◌++◌, length, get_or, set, is_ok, Ok, Err, sym, refl, ap, ◌∙◌, subst, ap₂, ⊎_elim, arith}
+use lib.Bits.{bit_xor, xor_assoc, xor_comm, xor_zero_r}
 use Rattle.std.proofs.lemmas.List.{length-append, get_or_append_left, get_or-append_right}
-use Rattle.std.proofs.lemmas.Bool.{cases_eq, cases_lt, cond-true, cond-false, eq-eqb, ne_eqb, lt-ltb, and_left, and_right, and_from, or_left, or_right}
+use Rattle.std.proofs.lemmas.Bool.{cases_eq, cases_lt, cond-true, cond-false, eq-eqb, ne_eqb, lt-ltb, and_left, and_right, and_from, or_left}
 use Rattle.keys.specs.Bits.{bits, entry}
 use Rattle.keys.specs.Field.{Field}
 use Rattle.keys.specs.Vectors.{Orthonormal-vectors}
 use Rattle.store.specs.Stores.{Block, Mark, live, dead, judged, asked, all_live}
 use Rattle.store.proofs.Asking.{asked-within, asked-from_all}
-use Rattle.wallet.specs.Each.{each, byte_at, length-each, get_or-each, each-is}
-use Rattle.wallet.specs.Levels.{byte_sum, changed, shown_byte, shown, refilled, in_key, lowest_dead, cover_fine, level_mark, level_marks}
-use Rattle.wallet.specs.Matched.{BlocksOf, CoverSet, HiddenContents, both_of, hidden_sum, partner, Shows, key_vectors, Puts, after_puts, Accepted, OfHidden, has, PutsLead}
+use Rattle.wallet.specs.Each.{byte_at, length-each, get_or-each, each-is}
+use Rattle.wallet.specs.Levels.{changed, shown_byte, shown, refilled, in_key, lowest_dead, cover_fine, level_mark, level_marks}
+use Rattle.wallet.specs.Matched.{both_of, hidden_sum, partner, Shows, key_vectors, Puts, after_puts, Accepted, OfHidden, has, PutsLead}
 use Rattle.wallet.specs.Places.{Covers, place, is_covered, cover_at, block_at}
 use Rattle.wallet.specs.Wallets.{State, stands, choosing, with_chosen, key_at, shown_under, marks_under, filled_under, named, not_standing, block_answer, put_call}
-use Rattle.wallet.proofs.Changing.{Reached, along, changed-is, changed-same, changed-none, changed-changed, length-changed, get_or-changed, changed_block, change_at, byte_at-shown, shown-same, renewed-here, along-other}
+use Rattle.wallet.proofs.Changing.{Reached, along, changed-is, changed-same, changed-none, changed-changed, length-changed, get_or-changed, change_at, byte_at-shown, shown-same, renewed-here, along-other}
 use Rattle.wallet.proofs.Hiding.{byte_sum-update, byte_sum-none, shown_byte-own, reached_all}
 use Rattle.wallet.proofs.PlaceLaws.{place-covered, below_all, uncovered}
 use Rattle.wallet.proofs.Summing.{each_same, byte_sum-same, act_none}

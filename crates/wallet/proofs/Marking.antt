@@ -1,12 +1,12 @@
 -- The mark of a level's block, found by asking its covers in order.
-use Rattle.std.proofs.Common.{◌≡◌, ℕ, zero, suc, ◌+◌, ◌-◌, ◌<◌, ◌≤◌, Bool, true, false, cond, not, ◌&&◌, ◌⊎◌, List, length, get_or, is_ok, Ok, Err, sym, refl, ap, ◌∙◌, ap₂, inl, inr, ⊎_elim, add-one, arith}
+use Rattle.std.proofs.Common.{◌≡◌, ℕ, zero, suc, ◌+◌, ◌-◌, ◌<◌, ◌≤◌, Bool, true, false, cond, not, ◌&&◌, List, length, is_ok, Ok, Err, sym, refl, ap, ◌∙◌, ⊎_elim, add-one, arith}
 use Rattle.std.proofs.lemmas.Bool.{cases_Bool, cases_eq, cond-true, cond-false, true≢false, false≢true, not-false}
 use Rattle.keys.specs.Bits.{bits}
 use Rattle.faults.specs.Faults.{past_count}
 use Rattle.faults.specs.declared.Fault.{Fault}
 use Rattle.store.specs.Stores.{Mark, live, dead, judged, asked}
 use Rattle.store.proofs.Asking.{asked-past, asked-within, within_from_ok}
-use Rattle.wallet.specs.Each.{each, length-each, get_or-each}
+use Rattle.wallet.specs.Each.{length-each, get_or-each}
 use Rattle.wallet.specs.Levels.{spoils, lowest_dead, cover_fine, level_mark, level_marks}
 use Rattle.wallet.specs.Places.{place}
 use Rattle.wallet.specs.Standing.{covers_of, key_of, level_marks_of, cover_answer}

@@ -1,5 +1,5 @@
 -- The cover sets of orthonormal keys are matched, for keys as numbers.
-use Rattle.std.proofs.Common.{ℕ, ◌<◌, ◌≤◌, Bool, true, false, List, [], length, Some, None, Option, arith}
+use Rattle.std.proofs.Common.{ℕ, ◌<◌, Bool, true, false, List, [], length, Some, None, Option, arith}
 use Rattle.keys.specs.Bits.{bits, taken}
 use Rattle.keys.specs.Keys.{Orthonormal, Below}
 use Rattle.keys.proofs.Standing.{vectors-orthonormal}

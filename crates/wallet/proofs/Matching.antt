@@ -1,13 +1,13 @@
 -- The matching of cover sets, over any field in which 1 + 1 is 0.
-use Rattle.std.proofs.Common.{◌≡◌, ℕ, ◌+◌, ◌-◌, ◌*◌, ◌<◌, ◌≤◌, true, false, cond, List, [], length, get_or, sym, refl, ap, ◌∙◌, subst, ap₂, ⊎_elim, arith}
+use Rattle.std.proofs.Common.{◌≡◌, ℕ, ◌+◌, ◌-◌, ◌<◌, ◌≤◌, cond, List, length, sym, ap, ◌∙◌, subst, ⊎_elim, arith}
 use lib.Bits.{bit_xor, xor_comm, xor_self, xor_lt}
 use Rattle.std.proofs.lemmas.Bool.{cases_Bool}
 use Rattle.keys.specs.Field.{Field}
 use Rattle.keys.specs.Vectors.{Orthonormal-vectors}
 use Rattle.store.specs.Stores.{Block}
 use Rattle.wallet.specs.Each.{byte_at}
-use Rattle.wallet.specs.Levels.{changed, shown_byte, shown}
-use Rattle.wallet.specs.Matched.{BlocksOf, CoverSet, HiddenContents, both_of, hidden_sum, partner, Shows, Matching}
+use Rattle.wallet.specs.Levels.{shown_byte, shown}
+use Rattle.wallet.specs.Matched.{CoverSet, HiddenContents, both_of, hidden_sum, partner, Shows, Matching}
 use Rattle.wallet.specs.Places.{Covers, is_covered, cover_at, block_at}
 use Rattle.wallet.proofs.Changing.{Reached, change_at, length-changed, whole-changed, byte_at-changed, changed-changed, changed-same, changed-none, byte_at-shown, shown-is, shown-same}
 use Rattle.wallet.proofs.Hiding.{byte_sum-below, shown_byte-own, shown_byte-disclosed, reached_all}

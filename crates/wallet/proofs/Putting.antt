@@ -1,5 +1,5 @@
 -- A put of one block of a level: it fills the level, and spares the levels of other keys.
-use Rattle.std.proofs.Common.{◌≡◌, ℕ, ◌<◌, Bool, true, false, cond, eqb, ◌⊎◌, List, [], length, get_or, set, is_ok, sym, refl, ap, ◌∙◌, ap₂, inl, inr, ⊎_elim, arith}
+use Rattle.std.proofs.Common.{◌≡◌, ℕ, ◌<◌, true, cond, eqb, List, [], length, get_or, set, is_ok, sym, ap, ◌∙◌, ap₂, inl, inr, ⊎_elim, arith}
 use lib.Bits.{bit_xor, xor_comm}
 use Rattle.std.proofs.lemmas.List.{length-set, get_or-set_other}
 use Rattle.std.proofs.lemmas.Bool.{cases_Bool, cases_eq, cond-true, cond-false, eq-eqb, ne_eqb}
@@ -7,8 +7,8 @@ use Rattle.keys.specs.Bits.{bits, taken}
 use Rattle.keys.specs.Keys.{product}
 use Rattle.keys.proofs.Entries.{product-dot}
 use Rattle.store.specs.Stores.{Block, Mark, asked}
-use Rattle.wallet.specs.Each.{each, byte_at, length-each}
-use Rattle.wallet.specs.Levels.{changed, xor_block, shown_byte, shown, refilled}
+use Rattle.wallet.specs.Each.{byte_at, length-each}
+use Rattle.wallet.specs.Levels.{xor_block, shown_byte, refilled}
 use Rattle.wallet.specs.Places.{place}
 use Rattle.wallet.specs.Standing.{covers_of, key_of, level_blocks, level_marks_of, level_filled, spread, Spares}
 use Rattle.wallet.specs.declared.level.Level.{Level}

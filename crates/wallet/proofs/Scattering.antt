@@ -5,12 +5,12 @@ use Rattle.std.proofs.lemmas.List.{length-set, get_or-set_same, get_or-set_other
 use Rattle.std.proofs.lemmas.Bool.{cases_Bool, cases_eq, cases_lt, cond-true, cond-false, cond_both, lt-ltb, le-ltb, eq-eqb, ne_eqb}
 use Rattle.keys.specs.Bits.{taken}
 use Rattle.store.specs.Stores.{Block}
-use Rattle.wallet.specs.Each.{each, byte_at}
+use Rattle.wallet.specs.Each.{byte_at}
 use Rattle.wallet.specs.Levels.{changed, xor_block}
 use Rattle.wallet.specs.Places.{place, is_covered, cover_at, block_at}
 use Rattle.wallet.specs.Standing.{covers_of, key_of, spread}
 use Rattle.wallet.specs.declared.level.Level.{Level}
-use Rattle.wallet.proofs.Changing.{Whole, Agree, change_at, changed-same, changed-none, changed-is, length-changed, get_or-changed}
+use Rattle.wallet.proofs.Changing.{Whole, change_at, changed-same, changed-none, changed-is, length-changed, get_or-changed}
 use Rattle.wallet.proofs.PlaceLaws.{place-covered, cover_at-place, block_at-place, place-back}
 use Rattle.wallet.proofs.Summing.{each_same}
 

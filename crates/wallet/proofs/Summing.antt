@@ -1,6 +1,6 @@
 -- Sums of bytes over the covers of a key.
 use Rattle.std.proofs.Common.{◌≡◌, ℕ, zero, suc, ◌+◌, ◌<◌, Bool, true, false, cond, ◌&&◌, List, [], length, get_or, replicate, sym, refl, ap, ◌∙◌, ap₂, ⊎_elim, add-one, arith}
-use lib.Bits.{bit_xor, xor_assoc, xor_comm, xor_self, xor_zero_r}
+use lib.Bits.{bit_xor, xor_assoc, xor_self, xor_zero_r}
 use Rattle.std.proofs.lemmas.List.{get_or-replicate}
 use Rattle.std.proofs.lemmas.Bool.{cases_Bool, cond-true, cond-false}
 use Rattle.keys.specs.Bits.{bits, taken}
@@ -9,10 +9,10 @@ use Rattle.keys.specs.Vectors.{dot}
 use Rattle.store.specs.Stores.{Block}
 use Rattle.wallet.specs.Each.{each, byte_at, length-each, get_or-each, each-is}
 use Rattle.wallet.specs.Levels.{byte_sum, shown_byte, shown_block, shown, xor_block}
-use Rattle.wallet.specs.Places.{Covers, place}
+use Rattle.wallet.specs.Places.{place}
 use Rattle.wallet.specs.Standing.{covers_of, key_of, level_blocks}
 use Rattle.wallet.specs.declared.level.Level.{Level}
-use Rattle.wallet.proofs.Xors.{xor-four, get_or-xor_block}
+use Rattle.wallet.proofs.Xors.{xor-four}
 
 pub each_same : {X : Type 0} (n : ℕ) (g h : ℕ → X) (d : X) → ((i : ℕ) → i < n → g i ≡ h i) → each n g ≡ each n h
 each_same n g h d e = each-is n h (each n g) d (length-each n g) (λ i lt. get_or-each n g i d lt ∙ e i lt)

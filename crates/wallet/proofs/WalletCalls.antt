@@ -1,9 +1,9 @@
 -- A block call of a wallet is the call of the level that it found.
-use Rattle.std.proofs.Common.{◌≡◌, ℕ, ◌^◌, ◌<◌, Bool, true, false, cond, List, length, get_or, set, is_ok, Ok, Err, Option, Result, sym, refl, ap, ◌∙◌, subst, ap₂}
+use Rattle.std.proofs.Common.{◌≡◌, ℕ, ◌^◌, ◌<◌, Bool, true, false, cond, List, set, is_ok, Ok, Err, Result, sym, refl, ap, ◌∙◌, subst, ap₂}
 use Rattle.keys.specs.Bits.{bits, entry}
 use Rattle.keys.specs.Keys.{product}
 use Rattle.std.proofs.lemmas.Bool.{cond-true}
-use Rattle.store.specs.Stores.{Block, Mark, asked}
+use Rattle.store.specs.Stores.{Block, asked}
 use Rattle.faults.specs.declared.Fault.{Fault}
 use Rattle.wallet.specs.Levels.{shown, refilled, level_marks}
 use Rattle.wallet.specs.Places.{Covers}

@@ -1,12 +1,12 @@
 -- The worked cases follow from the rules by calculation.
-use Rattle.std.proofs.Common.{◌≡◌, ℕ, zero, suc, ◌*◌, ◌<◌, ◌≤◌, List, [], ◌∷◌, length, get_or, set, sym, refl, ap, ◌∙◌, ap₂, arith}
+use Rattle.std.proofs.Common.{◌≡◌, ℕ, zero, suc, ◌*◌, ◌<◌, ◌≤◌, List, [], ◌∷◌, length, get_or, set, refl, ap, ◌∙◌, ap₂, arith}
 use lib.Bits.{bit_xor}
 use Rattle.keys.specs.Bits.{bits, entry, taken}
 use Rattle.store.specs.Stores.{Block}
 use Rattle.wallet.specs.Each.{byte_at}
 use Rattle.wallet.specs.Levels.{byte_sum, shown_byte, shown, refilled}
-use Rattle.wallet.specs.Places.{Covers, place}
-use Rattle.wallet.specs.Worked.{WorkedCovers, four, FirstBytes, ShowsFirst}
+use Rattle.wallet.specs.Places.{place}
+use Rattle.wallet.specs.Worked.{WorkedCovers, four, FirstBytes}
 use Rattle.wallet.proofs.Changing.{along, byte_at-shown, byte_at-place, renewed-here}
 use Rattle.wallet.proofs.Hiding.{reached_all}
 use Rattle.wallet.proofs.Summing.{byte_sum-same}

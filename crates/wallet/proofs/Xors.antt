@@ -1,10 +1,10 @@
 -- The exclusive or of two blocks, byte by byte.
-use Rattle.std.proofs.Common.{◌≡◌, ℕ, ◌+◌, ◌<◌, ◌≤◌, List, length, get_or, set, sym, ap, ◌∙◌, ⊎_elim, arith}
+use Rattle.std.proofs.Common.{◌≡◌, ℕ, ◌+◌, ◌<◌, ◌≤◌, length, get_or, set, sym, ap, ◌∙◌, ⊎_elim, arith}
 use lib.Bits.{bit_xor, xor_assoc, xor_comm, xor_self, xor_zero_r}
 use Rattle.std.proofs.lemmas.List.{length-set, get_or-set_same, get_or-set_other}
 use Rattle.std.proofs.lemmas.Bool.{cases_eq}
 use Rattle.store.specs.Stores.{Block}
-use Rattle.wallet.specs.Each.{each, length-each, get_or-each, each-is}
+use Rattle.wallet.specs.Each.{length-each, get_or-each, each-is}
 use Rattle.wallet.specs.Levels.{xor_block}
 
 -- what is added twice is gone

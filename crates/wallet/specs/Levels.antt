@@ -1,5 +1,5 @@
 -- What a level shows of a store's blocks and marks under its key, and what a write to it makes of the blocks.
-use Rattle.std.specs.Prelude.{ℕ, zero, suc, ◌<◌, Bool, true, false, cond, not, ◌&&◌, List, length, is_ok, bit_xor, slice_index}
+use Rattle.std.specs.Prelude.{ℕ, zero, suc, Bool, true, false, cond, not, ◌&&◌, List, length, is_ok, bit_xor, slice_index}
 use Rattle.std.proofs.Common.{⊎_elim}
 use Rattle.keys.specs.Field.{Field}
 use Rattle.store.specs.Stores.{Block, Mark, live, dead, asked}

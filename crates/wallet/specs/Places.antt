@@ -1,5 +1,5 @@
 -- Where the blocks of the covers lie in a store.
-use Rattle.std.specs.Prelude.{ℕ, ◌+◌, ◌*◌, ◌/◌, ◌%◌, ◌<◌, Bool, nat_lt}
+use Rattle.std.specs.Prelude.{ℕ, ◌+◌, ◌*◌, ◌/◌, ◌%◌, Bool, nat_lt}
 
 -- So many covers of so many blocks each; none of none before they are laid out.
 pub record Covers : Type 0 where

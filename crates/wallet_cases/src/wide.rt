@@ -117,7 +117,7 @@ fn compare(tally: &mut Tally, before: &[u8], after: &[u8]) {
     for (b, byte) in EDITS {
         let new = [byte; 512];
         let block = after.chunks(512).nth(b).unwrap_or(&[]);
-        tally.expect("an edited block", (block == new) as usize, 1);
+        tally.expect("an edited block", (block == new.as_slice()) as usize, 1);
     }
 }
 

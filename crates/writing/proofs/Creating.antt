@@ -1,5 +1,5 @@
 -- A created file, put block by block, and the questions that create asks.
-use Rattle.std.proofs.Common.{◌≡◌, ℕ, ◌+◌, ◌*◌, ◌/◌, ◌%◌, ◌<◌, ◌≤◌, Bool, true, false, cond, not, ◌&&◌, ◌||◌, eqb, ltb, leb, List, [], length, get_or, set, is_some, Ok, Err, Option, Result, sym, refl, ap, ◌∙◌, ⊎_elim, arith}
+use Rattle.std.proofs.Common.{◌≡◌, ℕ, ◌+◌, ◌/◌, ◌%◌, ◌<◌, ◌≤◌, true, false, cond, not, ◌&&◌, ◌||◌, eqb, ltb, leb, List, [], length, get_or, set, is_some, Ok, Err, Option, Result, sym, ap, ◌∙◌, ⊎_elim, arith}
 use lib.Bits.{bit_and}
 use Rattle.std.proofs.lemmas.List.{get_or-set_same}
 use Rattle.std.proofs.lemmas.Bool.{and_parts, and_left, and_from, both_ways, eqb-true, leb-true, lt-ltb, le-ltb, le-leb, lt-leb, eq-eqb, cases_lt, cases_Bool, cond-true, cond-false}
@@ -16,7 +16,7 @@ use Rattle.layout.specs.Inodes.{blocks_for, inode_of}
 use Rattle.layout.specs.Superblocks.{nfree_of, free_list, is_data}
 use Rattle.layout.specs.declared.inode.Inode.{Inode}
 use Rattle.volume.proofs.FreeLists.{length-free_list}
-use Rattle.volume.proofs.RuleFacts.{directory_size, directory_there}
+use Rattle.volume.proofs.RuleFacts.{directory_there}
 use Rattle.volume.proofs.SoundFacts.{RulesHold}
 use Rattle.volume.specs.Rules.{super_of, isize_in, directory_of, entry_count}
 use Rattle.reading.proofs.FileFacts.{data_there}

@@ -1,5 +1,5 @@
 -- A file removed, block by block, and the questions that remove asks.
-use Rattle.std.proofs.Common.{◌≡◌, ℕ, ◌/◌, ◌<◌, true, false, List, length, get_or, set, Ok, Err, Result, ap, ◌∙◌, arith}
+use Rattle.std.proofs.Common.{◌≡◌, ℕ, ◌/◌, ◌<◌, true, List, length, get_or, set, Ok, Err, Result, ap, ◌∙◌, arith}
 use Rattle.faults.specs.Faults.{bare}
 use Rattle.store.specs.Stores.{Block, Mark}
 use Rattle.faults.specs.declared.Fault.{Fault}

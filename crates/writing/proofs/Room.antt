@@ -1,25 +1,24 @@
 -- Room in the free list of a sound volume for the blocks of a file, and what is taken from it.
-use Rattle.std.proofs.Common.{◌≡◌, ℕ, zero, suc, ◌+◌, ◌-◌, ◌*◌, ◌<◌, ◌≤◌, Bool, true, false, cond, not, ◌&&◌, ◌||◌, eqb, ltb, leb, List, ◌++◌, reverse, length, get_or, take, replicate, sym, refl, ap, ◌∙◌, subst, ⊎_elim, arith}
+use Rattle.std.proofs.Common.{◌≡◌, ℕ, zero, suc, ◌+◌, ◌-◌, ◌*◌, ◌<◌, ◌≤◌, true, false, not, ◌&&◌, ◌||◌, eqb, ltb, leb, List, ◌++◌, reverse, length, get_or, replicate, sym, refl, ap, ◌∙◌, subst, ⊎_elim, arith}
 use Rattle.std.proofs.lemmas.List.{length-take-le, length-reverse, length-append, get_or-take, get_or-reverse, get_or_append_left, get_or-append-add, get_or-append_right}
 use Rattle.std.proofs.lemmas.Bool.{and_parts, and_left, lt-leb, eqb-true, cases_Bool, cases_lt, both_ways, cond-true}
 use Rattle.store.specs.Stores.{Block}
 use Rattle.layout.proofs.Reading.{length-words_at}
-use Rattle.layout.specs.Inodes.{allocated, blocks_for, inode_block, inode_place, inode_of}
+use Rattle.layout.specs.Inodes.{allocated, blocks_for, inode_of}
 use Rattle.layout.specs.Superblocks.{isize_of, nfree_of, free_at, free_list, is_data}
-use Rattle.layout.specs.declared.inode.Inode.{Inode}
 use Rattle.volume.proofs.Everys.{every-at}
 use Rattle.volume.proofs.FreeLists.{length-free_list}
 use Rattle.volume.proofs.RuleFacts.{sizes_from, nfree_from}
 use Rattle.volume.proofs.SoundFacts.{RulesHold}
 use Rattle.volume.specs.Numbers.{all_data, different, occurrences, total}
 use Rattle.volume.specs.Rules.{super_of, isize_in, held_by, standings}
-use Rattle.reading.proofs.FileFacts.{FileFacts, data_there}
+use Rattle.reading.proofs.FileFacts.{data_there}
 use Rattle.reading.proofs.Finding.{inode_is, number_facts, file_data}
 use Rattle.reading.specs.Found.{FileIn}
 use Rattle.reading.specs.declared.file.File.{File}
 use Rattle.writing.proofs.Counting.{total-add, total_at, total_most, total-occurrences, occurrences-none, occurrences-take}
 use Rattle.allotment.proofs.FreeLaws.{nfree_gives, free_list-gives, length-gives, free_list-takes, length-numbers_taken}
-use Rattle.allotment.specs.FreeSteps.{gives, takes, numbers_taken}
+use Rattle.allotment.specs.FreeSteps.{takes, numbers_taken}
 use Rattle.writing.specs.Writes.{own_blocks, given_back, inode_rewritten}
 
 -- what is taken from the free list stood in it

@@ -1,11 +1,11 @@
 -- Where a new file goes, and what is known of that place.
-use Rattle.std.proofs.Common.{◌≡◌, ℕ, zero, suc, ◌+◌, ◌-◌, ◌*◌, ◌<◌, ◌≤◌, Bool, true, false, cond, not, ◌&&◌, ◌||◌, ltb, leb, List, length, Some, None, Ok, Err, Option, Result, sym, refl, ap, ◌∙◌, subst, ⊎_elim, arith}
-use Rattle.std.proofs.lemmas.Bool.{and_parts, leb-true, ltb-true}
+use Rattle.std.proofs.Common.{◌≡◌, ℕ, zero, suc, ◌+◌, ◌*◌, ◌<◌, ◌≤◌, Bool, true, false, cond, ltb, List, length, Some, None, Ok, Err, Option, Result, refl, ap, subst, ⊎_elim, arith}
+use Rattle.std.proofs.lemmas.Bool.{ltb-true}
 use Rattle.faults.specs.Faults.{bare}
 use Rattle.store.specs.Stores.{Block}
 use Rattle.faults.specs.declared.Fault.{Fault}
 use Rattle.faults.specs.declared.Question.TheVariants.{EnoughFreeBlocks, EntryFree, InodeFree}
-use Rattle.layout.specs.Inodes.{allocated, inode_block, inode_of}
+use Rattle.layout.specs.Inodes.{inode_block, inode_of}
 use Rattle.volume.proofs.RuleFacts.{sizes_from}
 use Rattle.volume.proofs.SoundFacts.{RulesHold}
 use Rattle.volume.specs.Rules.{super_of, isize_in, directory_of, entry_count}

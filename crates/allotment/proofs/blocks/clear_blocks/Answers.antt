@@ -16,4 +16,4 @@ loop-n-preserved g c =
     let v = g.S.Store.blocks c.args.store.now in
     let sofar = c.loop-n.invariant in
     let more = ap (λ w. set w c.loop-n.n zero_block) sofar.after ∙ cleared_more v c.args.low c.loop-n.n (omega arith) in
-    leads_to g.S.Store.laws more (leads_join g.S.Store.laws sofar c.in-ok-put-block.ensures)
+    leads_to g.S.Store.laws more (leads_join g.S.Store.laws sofar c.in_ok-put_block.ensures)

@@ -16,4 +16,4 @@ returns c =
     let front = length-take 512 (drop start contents) in
     let few : n ≡ min 512 (length (drop start contents)) = omega arith in
     let size : n - 0 ≡ length part = omega arith in
-    ap (λ xs. xs ++ drop (n - 0) (replicate {A = ℕ} 512 0)) (c.copy-from-slice.ensures.after ∙ take_min 512 n (drop start contents) few) ∙ ap (λ k. part ++ drop k (replicate {A = ℕ} 512 0)) size ∙ ap (λ xs. part ++ xs) (drop-replicate (length part) 512 0)
+    ap (λ xs. xs ++ drop (n - 0) (replicate {A = ℕ} 512 0)) (c.copy_from_slice.ensures.after ∙ take_min 512 n (drop start contents) few) ∙ ap (λ k. part ++ drop k (replicate {A = ℕ} 512 0)) size ∙ ap (λ xs. part ++ xs) (drop-replicate (length part) 512 0)

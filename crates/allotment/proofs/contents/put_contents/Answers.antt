@@ -1,5 +1,5 @@
 -- One block more, and all of them.
-use Rattle.std.proofs.Common.{◌≡◌, length, get_or, set, sym, ap, ◌∙◌, arith, rules}
+use Rattle.std.proofs.Common.{◌≡◌, length, get_or, set, sym, ap, ◌∙◌, arith}
 use Rattle.layout.specs.Inodes.{blocks_for}
 use Rattle.allotment.proofs.Laying.{laid_none, laid_more}
 use Rattle.allotment.proofs.Leading.{leads_none, leads_to, leads_join, still_live, still_long}
@@ -11,8 +11,8 @@ loop-j-init g c =
     let s = c.args.store.now in
     leads_to g.S.Store.laws (sym (laid_none (g.S.Store.blocks s) c.args.addresses.now c.args.contents.now)) (leads_none g.S.Store.laws s)
 
-pub put-block-requires : goal.put-block-requires
-put-block-requires g c =
+pub put_block-requires : goal.put_block-requires
+put_block-requires g c =
     let laws = g.S.Store.laws in
     record {
       live = still_live laws c.loop-j.invariant c.requires.live;
@@ -26,8 +26,8 @@ loop-j-preserved g c =
     let numbers = c.args.addresses.now in
     let contents = c.args.contents.now in
     let j = c.loop-j.j in
-    let more = ap (λ w. set w (get_or numbers j 0) c.contents-block-block.result) c.loop-j.invariant.after ∙ ap (set (laid v numbers contents j) (get_or numbers j 0)) c.contents-block-block.ensures ∙ laid_more v numbers contents j in
-    leads_to laws more (leads_join laws c.loop-j.invariant c.in-ok-put-block.ensures)
+    let more = ap (λ w. set w (get_or numbers j 0) c.contents_block-block.result) c.loop-j.invariant.after ∙ ap (set (laid v numbers contents j) (get_or numbers j 0)) c.contents_block-block.ensures ∙ laid_more v numbers contents j in
+    leads_to laws more (leads_join laws c.loop-j.invariant c.in_ok-put_block.ensures)
 
 pub returns : goal.returns
 returns g c =

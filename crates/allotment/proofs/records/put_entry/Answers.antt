@@ -10,6 +10,6 @@ unfolding with_entry
 returns g c =
     let v = g.S.Store.blocks c.args.store.now in
     let n = entry_block c.args.addresses.now c.args.e in
-    let loaded = c.in-ok-block.ensures in
-    let is : c.in-ok-block.block ≡ get_or v n [] = cc in
-    leads_to g.S.Store.laws (ap (set v n) (c.set-entry.ensures ∙ ap (λ b. entry_into b (entry_place c.args.e) c.args.number c.args.name.now) is)) c.put-block.ensures
+    let loaded = c.in_ok-block.ensures in
+    let is : c.in_ok-block.block ≡ get_or v n [] = cc in
+    leads_to g.S.Store.laws (ap (set v n) (c.set_entry.ensures ∙ ap (λ b. entry_into b (entry_place c.args.e) c.args.number c.args.name.now) is)) c.put_block.ensures

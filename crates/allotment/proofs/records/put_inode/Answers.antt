@@ -11,6 +11,6 @@ unfolding with_inode
 returns g c =
     let v = g.S.Store.blocks c.args.store.now in
     let i = c.args.i in
-    let loaded = c.in-ok-block.ensures in
-    let is : c.in-ok-block.block ≡ get_or v (inode_block i) [] = cc in
-    leads_to g.S.Store.laws (ap (set v (inode_block i)) (c.set-inode.ensures ∙ ap (λ b. inode_into b (inode_place i) c.args.inode.now) is)) c.put-block.ensures
+    let loaded = c.in_ok-block.ensures in
+    let is : c.in_ok-block.block ≡ get_or v (inode_block i) [] = cc in
+    leads_to g.S.Store.laws (ap (set v (inode_block i)) (c.set_inode.ensures ∙ ap (λ b. inode_into b (inode_place i) c.args.inode.now) is)) c.put_block.ensures

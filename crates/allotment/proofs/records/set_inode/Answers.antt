@@ -10,4 +10,4 @@ unfolding inode_into
 returns c =
     let at = c.args.at in
     let whole : (at + 32) - at ≡ 32 = omega arith in
-    put-with_bytes c.args.block.now at ((at + 32) - at) _ (inode_bytes c.args.inode.now) (c.copy-from-slice.ensures.after ∙ c.encode.ensures.value) whole
+    put-with_bytes c.args.block.now at ((at + 32) - at) _ (inode_bytes c.args.inode.now) (c.copy_from_slice.ensures.after ∙ c.encode.ensures.value) whole

@@ -10,7 +10,7 @@ loop-j-preserved c =
     let word : ℕ → ℕ = λ k. word_at c.args.block.now (c.args.at + 2 * k) in
     let sofar = c.loop-j.words in
     let j = c.loop-j.j in
-    λ k h. ap (λ w. get_or (set sofar j w) k 0) c.word-at.ensures ∙ fill_by_more word sofar j 0 (omega arith) c.loop-j.invariant k h
+    λ k h. ap (λ w. get_or (set sofar j w) k 0) c.word_at.ensures ∙ fill_by_more word sofar j 0 (omega arith) c.loop-j.invariant k h
 
 pub returns : goal.returns
 unfolding words_at

@@ -1,5 +1,5 @@
 -- The words so far are in their places.
-use Rattle.std.proofs.Common.{◌≡◌, ℕ, ◌+◌, ◌*◌, ◌<◌, length, get_or}
+use Rattle.std.proofs.Common.{◌≡◌, ℕ, ◌+◌, ◌*◌, ◌<◌, get_or}
 use Rattle.layout.specs.Words.{word_at}
 use Rattle.layout.proofs.words.read_words.Given as goal
 

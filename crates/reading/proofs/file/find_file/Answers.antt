@@ -1,17 +1,17 @@
 -- An entry that was found is used, so its inode is in the volume.
-use Rattle.std.proofs.Common.{◌≡◌, sym, ap, ◌∙◌, arith}
+use Rattle.std.proofs.Common.{sym, ◌∙◌, arith}
 use Rattle.reading.proofs.Finding.{looked_up, entry-used}
 use Rattle.volume.proofs.SoundFacts.{rules_hold}
 use Rattle.reading.proofs.FileFacts.{few_entries, file_facts}
 use Rattle.reading.proofs.file.find_file.Goals as goal
 
-pub find-entry-requires : goal.find-entry-requires
-find-entry-requires g c =
+pub find_entry-requires : goal.find_entry-requires
+find_entry-requires g c =
     let v = g.S.Store.blocks c.args.store.now in
     record { few = omega (arith, c.requires.loaded.entries, few_entries v (rules_hold v c.requires.sound)); short = c.requires.short }
 
-pub load-file-requires : goal.load-file-requires
-load-file-requires g c =
+pub load_file-requires : goal.load_file-requires
+load_file-requires g c =
     let v = g.S.Store.blocks c.args.store.now in
     let name = c.args.name.now in
     let sound = rules_hold v c.requires.sound in

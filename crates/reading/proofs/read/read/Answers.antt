@@ -4,11 +4,11 @@ use Rattle.reading.proofs.Finding.{file_in, file_data, blocks_there}
 use Rattle.volume.proofs.SoundFacts.{rules_hold}
 use Rattle.reading.proofs.read.read.Goals as goal
 
-pub load-bytes-requires : goal.load-bytes-requires
-load-bytes-requires g c =
+pub load_bytes-requires : goal.load_bytes-requires
+load_bytes-requires g c =
     let v = g.S.Store.blocks c.args.store.now in
-    let opened = c.in-ok-volume.ensures in
+    let opened = c.in_ok-volume.ensures in
     let sound = rules_hold v opened.1 in
-    let file = c.in-ok-file.file in
-    let stands = file_in v c.args.name.now file (sym c.in-ok-file.ensures) in
+    let file = c.in_ok-file.file in
+    let stands = file_in v c.args.name.now file (sym c.in_ok-file.ensures) in
     record { live = search rules; few = (file_data v file sound stands).0; there = blocks_there v file sound stands; room = omega arith }

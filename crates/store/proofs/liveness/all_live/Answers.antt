@@ -1,5 +1,5 @@
 -- One block asked, and the end of the store.
-use Rattle.std.proofs.Common.{◌<◌, ◌≤◌, length, sym, ap, ◌∙◌, arith}
+use Rattle.std.proofs.Common.{◌<◌, ◌≤◌, length, sym, ◌∙◌, arith}
 use Rattle.std.proofs.lemmas.List.{at_drop_all}
 use Rattle.store.specs.Stores.{first_dead, all_live}
 use Rattle.store.proofs.Asking.{first-goes-on, first_here}

@@ -5,6 +5,6 @@ use Rattle.store.proofs.plain.count_of.Goals as goal
 
 pub returns : goal.returns
 returns c = record {
-  whole = c.whole-blocks.ensures;
-  shown = c.whole-blocks.ensures ∙ sym (length_cut c.args.memory.now);
+  whole = c.whole_blocks.ensures;
+  shown = c.whole_blocks.ensures ∙ sym (length_cut c.args.memory.now);
 }

@@ -8,5 +8,5 @@ use Rattle.volume.proofs.check.check.Goals as goal
 pub returns-in-Ok : goal.returns-in-Ok
 returns-in-Ok g c =
     let v = g.S.Store.blocks c.args.store.now in
-    let none = nothing_broken v (first_broken v) c.in-ok-inspect.field-0 c.in-Ok.field-0 c.in-Ok.is c.in-ok-inspect.ensures in
+    let none = nothing_broken v (first_broken v) c.in_ok-inspect.field-0 c.in-Ok.field-0 c.in-Ok.is c.in_ok-inspect.ensures in
     record { sound = λ _. sound_volume v (rules_hold v none); answer = search rules }

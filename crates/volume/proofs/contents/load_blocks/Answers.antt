@@ -9,15 +9,15 @@ loop-j-preserved g c =
     let v = g.S.Store.blocks s in
     let xs = c.args.addresses.now in
     let j = c.loop-j.j in
-    let loaded = c.in-ok-block.ensures in
-    let is : c.in-ok-block.block ≡ get_or v (get_or xs j 0) [] = cc in
-    let part = c.copy-from-slice.ensures.after ∙ is in
+    let loaded = c.in_ok-block.ensures in
+    let is : c.in_ok-block.block ≡ get_or v (get_or xs j 0) [] = cc in
+    let part = c.copy_from_slice.ensures.after ∙ is in
     let size = ap length part ∙ g.S.Store.laws.sized s (get_or xs j 0) (c.requires.there j c.loop-j-test.true) in
     let few : j < 8 = omega (arith, c.requires.few) in
     let within : j < length xs = omega (arith, c.told-addresses) in
     let whole : (512 * j + 512) - 512 * j ≡ 512 = omega arith in
     let loading = c.loop-j.contents in
-    let got = c.copy-from-slice.new.self in (
+    let got = c.copy_from_slice.new.self in (
       length-loaded v xs loading got j _ c.loop-j.invariant.0 few within whole size,
       loaded_more v xs loading got j _ c.loop-j.invariant.0 few within whole size c.loop-j.invariant.1 part,
       rest_kept v xs loading got j _ c.loop-j.invariant.0 few within whole size c.args.n c.loop-j-test.true ∙ c.loop-j.invariant.2,

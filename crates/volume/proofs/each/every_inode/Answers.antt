@@ -5,4 +5,4 @@ use Rattle.volume.proofs.each.every_inode.Goals as goal
 
 pub returns : goal.returns
 returns g c =
-    ap (λ e. Ok e.passed) (c.visit-inodes.ensures.after ∙ visited-each g.T.InodeTest.passes (g.S.Store.blocks c.args.store.now) (16 * c.args.isize) c.args.test)
+    ap (λ e. Ok e.passed) (c.visit_inodes.ensures.after ∙ visited-each g.T.InodeTest.passes (g.S.Store.blocks c.args.store.now) (16 * c.args.isize) c.args.test)

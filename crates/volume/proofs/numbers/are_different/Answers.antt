@@ -7,9 +7,9 @@ use Rattle.volume.proofs.numbers.are_different.Goals as goal
 pub loop-j-init : goal.loop-j-init
 loop-j-init c = every-none (is_new c.args.numbers.now)
 
-pub returns-then-not-is-new : goal.returns-then-not-is-new
-returns-then-not-is-new c =
-    sym (every-fails (is_new c.args.numbers.now) _ c.loop-j.j c.loop-j-test.true (sym c.if-not-is-new.ensures))
+pub returns-then-not-is_new : goal.returns-then-not-is_new
+returns-then-not-is_new c =
+    sym (every-fails (is_new c.args.numbers.now) _ c.loop-j.j c.loop-j-test.true (sym c.if-not-is_new.ensures))
 
 pub loop-j-preserved : goal.loop-j-preserved
-loop-j-preserved c = every_more (is_new c.args.numbers.now) c.loop-j.j c.loop-j.invariant (sym c.if-not-is-new.ensures)
+loop-j-preserved c = every_more (is_new c.args.numbers.now) c.loop-j.j c.loop-j.invariant (sym c.if-not-is_new.ensures)

@@ -6,14 +6,14 @@ use Rattle.layout.specs.Entries.{entry_at}
 use Rattle.volume.specs.Rules.{super_of}
 use Rattle.volume.proofs.rules.entries_are_good.Goals as goal
 
-pub returns-then-not-are-numbered-by : goal.returns-then-not-are-numbered-by
-returns-then-not-are-numbered-by g c =
+pub returns-then-not-are_numbered_by : goal.returns-then-not-are_numbered_by
+returns-then-not-are_numbered_by g c =
     let v = g.S.Store.blocks c.args.store.now in
     let sizes = sizes_from (super_of v) (length v) c.requires.sizes in
-    ap Ok (eighth_stray v c.args.isize c.args.entries (entry_at c.args.directory.now) c.visit-inodes.new.visitor c.requires.inodes c.requires.loaded c.requires.counted (omega (arith, sizes, c.requires.inodes)) c.visit-inodes.ensures.after c.if-not-are-well-named.ensures c.if-not-are-numbered-by.ensures)
+    ap Ok (eighth_stray v c.args.isize c.args.entries (entry_at c.args.directory.now) c.visit_inodes.new.visitor c.requires.inodes c.requires.loaded c.requires.counted (omega (arith, sizes, c.requires.inodes)) c.visit_inodes.ensures.after c.if-not-are_well_named.ensures c.if-not-are_numbered_by.ensures)
 
 pub returns : goal.returns
 returns g c =
     let v = g.S.Store.blocks c.args.store.now in
     let sizes = sizes_from (super_of v) (length v) c.requires.sizes in
-    c.every-inode.ensures ∙ ap Ok (eighth_last v c.args.isize c.args.entries (entry_at c.args.directory.now) c.visit-inodes.new.visitor c.requires.inodes c.requires.loaded c.requires.counted (omega (arith, sizes, c.requires.inodes)) c.visit-inodes.ensures.after c.if-not-are-well-named.ensures c.if-not-are-numbered-by.ensures)
+    c.every_inode.ensures ∙ ap Ok (eighth_last v c.args.isize c.args.entries (entry_at c.args.directory.now) c.visit_inodes.new.visitor c.requires.inodes c.requires.loaded c.requires.counted (omega (arith, sizes, c.requires.inodes)) c.visit_inodes.ensures.after c.if-not-are_well_named.ensures c.if-not-are_numbered_by.ensures)

@@ -8,7 +8,7 @@ pub loop-number-preserved : goal.loop-number-preserved
 loop-number-preserved c =
     let xs = c.args.numbers.now in
     let i = c.loop-number.number-index in
-    ap (λ counts. tallied counts (drop (i + 1) xs)) c.add-one.ensures ∙ sym (at_drop_more (tallied c.loop-number.counts) xs i 0 c.loop-number-test.true) ∙ c.loop-number.invariant
+    ap (λ counts. tallied counts (drop (i + 1) xs)) c.add_one.ensures ∙ sym (at_drop_more (tallied c.loop-number.counts) xs i 0 c.loop-number-test.true) ∙ c.loop-number.invariant
 
 pub returns : goal.returns
 returns c =

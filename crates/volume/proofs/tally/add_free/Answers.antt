@@ -7,6 +7,6 @@ use Rattle.volume.proofs.tally.add_free.Goals as goal
 pub returns : goal.returns
 returns c =
     let b = c.args.superblock.now in
-    let nfree = c.nfree-of-nfree.result in
-    c.add-all.ensures ∙ ap (λ ps. tallied c.args.counts.now (take (nfree - 1) (drop 1 ps))) c.read-words.ensures ∙
-    ap (tallied c.args.counts.now) (named-is b nfree c.nfree-of-nfree.ensures (omega (arith, c.requires.most)))
+    let nfree = c.nfree_of-nfree.result in
+    c.add_all.ensures ∙ ap (λ ps. tallied c.args.counts.now (take (nfree - 1) (drop 1 ps))) c.read_words.ensures ∙
+    ap (tallied c.args.counts.now) (named-is b nfree c.nfree_of-nfree.ensures (omega (arith, c.requires.most)))

@@ -1,7 +1,5 @@
 -- One inode more.
-use Rattle.std.proofs.Common.{◌+◌, ◌*◌, sym, refl, ap, ◌∙◌, add-one}
-use Rattle.layout.specs.Inodes.{inode_at}
-use Rattle.volume.specs.Visits.{visited_in}
+use Rattle.std.proofs.Common.{sym}
 use Rattle.volume.proofs.Visiting.{visited_in-none, visited_in-more}
 use Rattle.volume.proofs.visit.visit_block.Goals as goal
 

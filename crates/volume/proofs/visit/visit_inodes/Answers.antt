@@ -10,9 +10,9 @@ loop-k-init g c = sym (visited-none g.V.Visitor.after (g.S.Store.blocks c.args.s
 pub loop-k-preserved : goal.loop-k-preserved
 loop-k-preserved g c =
     let v = g.S.Store.blocks c.args.store.now in
-    let loaded = c.in-ok-block.ensures in
-    let is : c.in-ok-block.block ≡ get_or v (c.loop-k.k + 2) [] = cc in
-    visited-next g.V.Visitor.after v c.loop-k.k c.args.visitor.now c.loop-k.visitor c.visit-block.new.visitor c.in-ok-block.block c.loop-k.invariant is c.visit-block.ensures
+    let loaded = c.in_ok-block.ensures in
+    let is : c.in_ok-block.block ≡ get_or v (c.loop-k.k + 2) [] = cc in
+    visited-next g.V.Visitor.after v c.loop-k.k c.args.visitor.now c.loop-k.visitor c.visit_block.new.visitor c.in_ok-block.block c.loop-k.invariant is c.visit_block.ensures
 
 pub returns : goal.returns
 returns g c =

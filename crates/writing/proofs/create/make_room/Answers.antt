@@ -1,5 +1,5 @@
 -- The entry is there, or it is one more in the last block, or in a new one.
-use Rattle.std.proofs.Common.{◌≡◌, ◌+◌, ◌/◌, ◌<◌, ◌≤◌, length, set, sym, refl, ap, ◌∙◌, arith}
+use Rattle.std.proofs.Common.{◌/◌, ◌<◌, ◌≤◌, length, set, sym, refl, ap, ◌∙◌, arith}
 use Rattle.layout.specs.Inodes.{inode_of}
 use Rattle.volume.proofs.RuleFacts.{sizes_from, directory_size}
 use Rattle.volume.proofs.SoundFacts.{rules_hold}
@@ -21,8 +21,8 @@ returns-then-e-volume g c =
       numbers = c.requires.begun ∙ blocks_same v c.args.e (needs_none v c.args.e there);
     }
 
-pub put-root-requires : goal.put-root-requires
-put-root-requires g c =
+pub put_root-requires : goal.put_root-requires
+put_root-requires g c =
     let v = g.S.Store.blocks c.args.store.now in
     let sound = rules_hold v c.requires.sound in
     let size = ap (λ i. i.size) c.requires.loaded.root in
@@ -32,26 +32,26 @@ put-root-requires g c =
       small = omega (arith, (directory_size (inode_of v 1) sound.root).1);
     }
 
-pub returns-then-not-needs-block : goal.returns-then-not-needs-block
-returns-then-not-needs-block g c =
+pub returns-then-not-needs_block : goal.returns-then-not-needs_block
+returns-then-not-needs_block g c =
     let v = g.S.Store.blocks c.args.store.now in
     let e = c.args.e in
     let past : entry_count v ≤ e = omega (arith, c.requires.loaded.entries) in
-    let goal = sym (c.if-not-needs-block.ensures ∙ ap (λ n. needs_block n e) c.requires.loaded.entries) in
+    let goal = sym (c.if-not-needs_block.ensures ∙ ap (λ n. needs_block n e) c.requires.loaded.entries) in
     let numbers = c.requires.begun ∙ blocks_same v e goal in
     record {
-      leads = leads_to g.S.Store.laws (lengthened-by v v c.args.volume.now.root c.args.addresses.now (directory_blocks v e) c.requires.loaded.root numbers refl ∙ room_inside v e past goal) c.put-root.ensures;
+      leads = leads_to g.S.Store.laws (lengthened-by v v c.args.volume.now.root c.args.addresses.now (directory_blocks v e) c.requires.loaded.root numbers refl ∙ room_inside v e past goal) c.put_root.ensures;
       numbers = numbers;
     }
 
-pub add-block-requires : goal.add-block-requires
-add-block-requires g c =
+pub add_block-requires : goal.add_block-requires
+add_block-requires g c =
     let s = c.args.store.now in
     let v = g.S.Store.blocks s in
     let e = c.args.e in
     let sound = rules_hold v c.requires.sound in
     let sizes = sizes_from (super_of v) (length v) sound.sizes in
-    let goal = sym (c.if-not-needs-block.ensures ∙ ap (λ n. needs_block n e) c.requires.loaded.entries) in
+    let goal = sym (c.if-not-needs_block.ensures ∙ ap (λ n. needs_block n e) c.requires.loaded.entries) in
     let long = g.S.Store.laws.sized s 1 (omega arith) in
     record {
       live = c.requires.live;
@@ -63,15 +63,15 @@ add-block-requires g c =
       few = omega (arith, c.requires.few);
     }
 
-pub put-root-requires-2 : goal.put-root-requires-2
-put-root-requires-2 g c =
+pub put_root-requires-2 : goal.put_root-requires-2
+put_root-requires-2 g c =
     let v = g.S.Store.blocks c.args.store.now in
     let laws = g.S.Store.laws in
     let sound = rules_hold v c.requires.sound in
     let size = ap (λ i. i.size) c.requires.loaded.root in
     record {
-      live = still_live laws c.add-block.ensures.leads c.requires.live;
-      within = omega (arith, still_long laws c.add-block.ensures.leads, sizes_from (super_of v) (length v) sound.sizes);
+      live = still_live laws c.add_block.ensures.leads c.requires.live;
+      within = omega (arith, still_long laws c.add_block.ensures.leads, sizes_from (super_of v) (length v) sound.sizes);
       small = omega (arith, (directory_size (inode_of v 1) sound.root).1);
     }
 
@@ -81,9 +81,9 @@ returns g c =
     let v = g.S.Store.blocks c.args.store.now in
     let e = c.args.e in
     let past : entry_count v ≤ e = omega (arith, c.requires.loaded.entries) in
-    let goal = sym (c.if-not-needs-block.ensures ∙ ap (λ n. needs_block n e) c.requires.loaded.entries) in
-    let numbers = c.add-block.ensures.numbers ∙ ap (λ xs. set xs (e / 32) (next_free (super_of v))) c.requires.begun ∙ blocks-new v e goal in
+    let goal = sym (c.if-not-needs_block.ensures ∙ ap (λ n. needs_block n e) c.requires.loaded.entries) in
+    let numbers = c.add_block.ensures.numbers ∙ ap (λ xs. set xs (e / 32) (next_free (super_of v))) c.requires.begun ∙ blocks-new v e goal in
     record {
-      leads = leads_to laws (lengthened-by v (with_new_block v) c.args.volume.now.root _ (directory_blocks v e) c.requires.loaded.root numbers c.add-block.ensures.leads.after ∙ room-new v e past goal) (leads_join laws c.add-block.ensures.leads c.put-root-2.ensures);
+      leads = leads_to laws (lengthened-by v (with_new_block v) c.args.volume.now.root _ (directory_blocks v e) c.requires.loaded.root numbers c.add_block.ensures.leads.after ∙ room-new v e past goal) (leads_join laws c.add_block.ensures.leads c.put_root-2.ensures);
       numbers = numbers;
     }

@@ -1,5 +1,5 @@
 -- There is room for the file's blocks in the free list, and its inode and its entry are in the volume.
-use Rattle.std.proofs.Common.{◌≡◌, ◌/◌, length, get_or, sym, refl, ap, ◌∙◌, arith}
+use Rattle.std.proofs.Common.{◌/◌, length, get_or, refl, ap, arith}
 use Rattle.layout.specs.Superblocks.{nfree_of}
 use Rattle.volume.proofs.RuleFacts.{sizes_from}
 use Rattle.volume.proofs.SoundFacts.{rules_hold}
@@ -11,33 +11,33 @@ use Rattle.writing.proofs.Removing.{entry-there, removed-by}
 use Rattle.writing.proofs.Room.{own_room}
 use Rattle.writing.proofs.remove.discard.Goals as goal
 
-pub give-file-back-requires : goal.give-file-back-requires
-give-file-back-requires g c =
+pub give_file_back-requires : goal.give_file_back-requires
+give_file_back-requires g c =
     let v = g.S.Store.blocks c.args.store.now in
     let f = c.args.file.now in
     let sound = rules_hold v c.requires.sound in
     let same = ap nfree_of c.requires.loaded.superblock in
     record { small = (file_data v f sound c.requires.found).0; room = omega (arith, own_room v sound f c.requires.found) }
 
-pub put-block-requires : goal.put-block-requires
-put-block-requires g c =
+pub put_block-requires : goal.put_block-requires
+put_block-requires g c =
     let v = g.S.Store.blocks c.args.store.now in
     record { live = c.requires.live; within = omega (arith, (sizes_from (super_of v) (length v) (rules_hold v c.requires.sound).sizes).room) }
 
-pub put-inode-requires : goal.put-inode-requires
-put-inode-requires g c =
+pub put_inode-requires : goal.put_inode-requires
+put_inode-requires g c =
     let v = g.S.Store.blocks c.args.store.now in
     let laws = g.S.Store.laws in
     let facts = number_facts v c.args.file.now (rules_hold v c.requires.sound) c.requires.found in
-    record { live = still_live laws c.put-block.ensures c.requires.live; within = omega (arith, facts.there, still_long laws c.put-block.ensures) }
+    record { live = still_live laws c.put_block.ensures c.requires.live; within = omega (arith, facts.there, still_long laws c.put_block.ensures) }
 
-pub put-entry-number-requires : goal.put-entry-number-requires
-put-entry-number-requires g c =
+pub put_entry_number-requires : goal.put_entry_number-requires
+put_entry_number-requires g c =
     let v = g.S.Store.blocks c.args.store.now in
     let laws = g.S.Store.laws in
     let sound = rules_hold v c.requires.sound in
     let e = c.args.file.now.entry in
-    let sofar = leads_join laws c.put-block.ensures c.put-inode.ensures in
+    let sofar = leads_join laws c.put_block.ensures c.put_inode.ensures in
     let same = ap (λ i. get_or i.addresses (e / 32) 0) c.requires.loaded.root in
     record {
       live = still_live laws sofar c.requires.live;
@@ -50,5 +50,5 @@ returns g c =
     let laws = g.S.Store.laws in
     let v = g.S.Store.blocks c.args.store.now in
     let o = c.args.volume.now in
-    let joined = leads_join laws c.put-block.ensures (leads_join laws c.put-inode.ensures c.put-entry-number.ensures) in
-    leads_to laws (removed-by v _ _ o.superblock c.give-file-back.new.superblock _ o.root.addresses c.args.file.now c.requires.loaded.superblock c.give-file-back.ensures.after refl (ap (λ i. i.addresses) c.requires.loaded.root) c.put-block.ensures.after c.put-inode.ensures.after) joined
+    let joined = leads_join laws c.put_block.ensures (leads_join laws c.put_inode.ensures c.put_entry_number.ensures) in
+    leads_to laws (removed-by v _ _ o.superblock c.give_file_back.new.superblock _ o.root.addresses c.args.file.now c.requires.loaded.superblock c.give_file_back.ensures.after refl (ap (λ i. i.addresses) c.requires.loaded.root) c.put_block.ensures.after c.put_inode.ensures.after) joined

@@ -1,7 +1,7 @@
 -- A new block is needed.
-use Rattle.std.proofs.Common.{◌≡◌, true, leb, sym, ap, ◌∙◌}
+use Rattle.std.proofs.Common.{leb, sym, ap, ◌∙◌}
 use Rattle.writing.proofs.Creating.{two_places}
 use Rattle.writing.proofs.vacancy.has_room.Goals as goal
 
 pub returns : goal.returns
-returns c = ap (leb 2) c.nfree-of.ensures ∙ two_places c.args.superblock.now c.args.entries c.args.e (sym c.if-not-needs-block.ensures)
+returns c = ap (leb 2) c.nfree_of.ensures ∙ two_places c.args.superblock.now c.args.entries c.args.e (sym c.if-not-needs_block.ensures)

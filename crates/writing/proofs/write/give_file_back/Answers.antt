@@ -13,12 +13,12 @@ unfolding given_back
 returns c =
     let b = c.args.superblock.now in
     let i = c.args.inode.now in
-    let n = c.blocks-for-n.result in
+    let n = c.blocks_for-n.result in
     let size : n - 0 ≡ blocks_for i.size = omega arith in
     let own = own_blocks i in
     let fits : blocks_for i.size ≤ length i.addresses = omega arith in
     let long = length-take-le (blocks_for i.size) i.addresses fits in
     let turned = length-reverse own in
-    let is = c.give-back.ensures ∙ ap (λ k. gives b (reverse (take k i.addresses))) size in
+    let is = c.give_back.ensures ∙ ap (λ k. gives b (reverse (take k i.addresses))) size in
     let more = nfree_gives (reverse own) b c.told-superblock (omega (arith, c.requires.room)) in
     record { after = is; count = ap nfree_of is ∙ omega arith }

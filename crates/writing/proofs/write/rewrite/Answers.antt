@@ -1,5 +1,5 @@
 -- There is room for the file's blocks in the free list, and what is taken is in the volume.
-use Rattle.std.proofs.Common.{◌≡◌, ◌+◌, ◌<◌, length, get_or, sym, ap, ◌∙◌, arith}
+use Rattle.std.proofs.Common.{◌+◌, ◌<◌, length, get_or, sym, ap, ◌∙◌, arith}
 use Rattle.std.proofs.lemmas.Bool.{leb-true}
 use Rattle.layout.specs.Inodes.{blocks_for}
 use Rattle.layout.specs.Superblocks.{nfree_of, free_list}
@@ -27,8 +27,8 @@ resize-inode-requires g c =
       enough = ap (λ b. enough_blocks b f.inode (length c.args.contents.now)) c.requires.read ∙ c.requires.enough;
     }
 
-pub put-contents-requires : goal.put-contents-requires
-put-contents-requires g c =
+pub put_contents-requires : goal.put_contents-requires
+put_contents-requires g c =
     let v = g.S.Store.blocks c.args.store.now in
     let f = c.args.file.now in
     let n = length c.args.contents.now in
@@ -39,16 +39,16 @@ put-contents-requires g c =
     let enough : blocks_for n < nfree_of (super_of v) + blocks_for f.inode.size = omega (arith, (nfree_range v sound).0) in
     let inode = c.resize-inode.ensures.inode ∙ ap (λ b. inode_rewritten b f.inode n) c.requires.read in
     record {
-      live = still_live g.S.Store.laws c.put-block.ensures c.requires.live;
+      live = still_live g.S.Store.laws c.put_block.ensures c.requires.live;
       few = c.requires.fits;
-      there = λ j lt. let same = ap (λ i. get_or i.addresses j 0) inode in omega (arith, rewritten_there v sound f c.requires.found long n enough j lt, still_long g.S.Store.laws c.put-block.ensures);
+      there = λ j lt. let same = ap (λ i. get_or i.addresses j 0) inode in omega (arith, rewritten_there v sound f c.requires.found long n enough j lt, still_long g.S.Store.laws c.put_block.ensures);
     }
 
-pub put-inode-requires : goal.put-inode-requires
-put-inode-requires g c =
+pub put_inode-requires : goal.put_inode-requires
+put_inode-requires g c =
     let v = g.S.Store.blocks c.args.store.now in
     let laws = g.S.Store.laws in
-    let sofar = leads_join laws c.put-block.ensures c.put-contents.ensures in
+    let sofar = leads_join laws c.put_block.ensures c.put_contents.ensures in
     let facts = number_facts v c.args.file.now (rules_hold v c.requires.sound) c.requires.found in
     record { live = still_live laws sofar c.requires.live; within = omega (arith, facts.there, still_long laws sofar) }
 
@@ -56,5 +56,5 @@ pub returns : goal.returns
 returns g c =
     let laws = g.S.Store.laws in
     let v = g.S.Store.blocks c.args.store.now in
-    let joined = leads_join laws c.put-block.ensures (leads_join laws c.put-contents.ensures c.put-inode.ensures) in
-    leads_to laws (written_by v _ _ c.args.superblock.now c.resize-inode.new.superblock c.resize-inode.result c.args.contents.now c.args.file.now c.requires.read c.resize-inode.ensures.after c.resize-inode.ensures.inode c.put-block.ensures.after c.put-contents.ensures.after) joined
+    let joined = leads_join laws c.put_block.ensures (leads_join laws c.put_contents.ensures c.put_inode.ensures) in
+    leads_to laws (written_by v _ _ c.args.superblock.now c.resize-inode.new.superblock c.resize-inode.result c.args.contents.now c.args.file.now c.requires.read c.resize-inode.ensures.after c.resize-inode.ensures.inode c.put_block.ensures.after c.put_contents.ensures.after) joined

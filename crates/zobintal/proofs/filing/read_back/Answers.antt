@@ -10,8 +10,8 @@ loop-n-preserved g c =
     let blocks = g.S.Store.blocks c.args.store.now in
     let places = c.args.places.now in
     let i = c.loop-n.n-index in
-    let grown = pushed c.fetch.new.buffer c.loop-n.invariant c.in-ok-extend-from-slice.was c.extend-from-slice.ensures.items in
-    grown ∙ ap (λ b. gathered blocks (take i places) ++ b) c.in-ok-fetch.ensures.buffer ∙
+    let grown = pushed c.fetch.new.buffer c.loop-n.invariant c.in_ok-extend_from_slice.was c.extend_from_slice.ensures.items in
+    grown ∙ ap (λ b. gathered blocks (take i places) ++ b) c.in_ok-fetch.ensures.buffer ∙
     flat_map_more (λ n. get_or blocks n []) [] (take i places) (get_or places i 0) ∙ ap (gathered blocks) (sym (take_more places i 0 c.loop-n-test.true))
 
 pub returns : goal.returns

@@ -8,7 +8,7 @@ pub append-requires : goal.append-requires
 append-requires c =
     let t = c.args.self.now in
     record {
-      room = c.in-ok-admit.ensures.room refl;
-      below = rw c.remainder-key.ensures.answer (remainder-below t.covers (standing t) t.below c.args.candidate (c.in-ok-admit.ensures.below refl));
+      room = c.in_ok-admit.ensures.room refl;
+      below = rw c.remainder-key.ensures.answer (remainder-below t.covers (standing t) t.below c.args.candidate (c.in_ok-admit.ensures.below refl));
       fits = c.remainder-key.ensures.fits_if_odd (omega arith);
     }

@@ -4,28 +4,19 @@ use Rattle.std.proofs.lemmas.List.{length-set}
 use Rattle.keys.proofs.Tables.{length-standing, take-appended, own_appended, others_appended, below-appended}
 use Rattle.keys.proofs.table.KeyTable.append.Goals as goal
 
-pub invariant-of-self : goal.invariant-of-self
-invariant-of-self c =
+pub invariant_of-self : goal.invariant_of-self
+invariant_of-self c =
     let t = c.args.self.now in
-    let key = c.args.key in (
-      length-set t.keys t.count _ ∙ t.places,
-      (
-        omega (arith, c.requires.room),
-        (
-          t.least,
-          (
-            t.most,
-            (
-              own_appended t key c.requires.room c.requires.fits,
-              (
-                others_appended t key c.requires.room c.requires.fits,
-                (below-appended t key c.requires.room c.requires.below, tt),
-              ),
-            ),
-          ),
-        ),
-      ),
-    )
+    let key = c.args.key in
+    record {
+      places = length-set t.keys t.count _ ∙ t.places;
+      few = omega (arith, c.requires.room);
+      least = t.least;
+      most = t.most;
+      own = own_appended t key c.requires.room c.requires.fits;
+      others = others_appended t key c.requires.room c.requires.fits;
+      below = below-appended t key c.requires.room c.requires.below;
+    }
 
 pub returns : goal.returns
 returns c =

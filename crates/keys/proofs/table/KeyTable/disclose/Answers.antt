@@ -10,5 +10,5 @@ returns c =
     let d = c.args.d in
     record {
       answer = sym (disclose_accepted t d list (omega arith) (omega arith));
-      places = ap (λ ks. ks ++ drop d list) c.copy-from-slice.ensures.after ∙ disclose_places t d list (omega arith) (omega arith);
+      places = ap (λ ks. ks ++ drop d list) c.copy_from_slice.ensures.after ∙ disclose_places t d list (omega arith) (omega arith);
     }

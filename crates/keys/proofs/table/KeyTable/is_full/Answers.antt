@@ -7,4 +7,4 @@ use Rattle.keys.proofs.table.KeyTable.is_full.Goals as goal
 pub returns : goal.returns
 returns c =
     says-full c.args.self.now _
-    (ap₂ (λ sum limit. eqb sum (limit - 1)) (c.key-sum.ensures ∙ ap key_sum c.standing.ensures) c.limit.ensures)
+    (ap₂ (λ sum limit. eqb sum (limit - 1)) (c.key_sum.ensures ∙ ap key_sum c.standing.ensures) c.limit.ensures)

@@ -7,7 +7,7 @@ pub append-requires : goal.append-requires
 append-requires c =
     let key = c.args.key in
     record {
-      room = c.in-ok-admit.ensures.room refl;
-      below = c.in-ok-admit.ensures.below refl;
+      room = c.in_ok-admit.ensures.room refl;
+      below = c.in_ok-admit.ensures.below refl;
       fits = subst (λ ks. Fits ks key) c.standing.ensures (c.fits.ensures.decides.0 c.if-not-fits.false);
     }

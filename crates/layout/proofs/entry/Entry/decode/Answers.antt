@@ -9,4 +9,4 @@ returns c =
     let d = c.args.directory.now in
     let at = 16 * c.args.e + 2 in
     let size : ((16 * c.args.e + 2) + 14) - (16 * c.args.e + 2) ≡ 14 = omega arith in
-    ap (λ name. record { inode = word_at d (16 * c.args.e); name = name }) (c.copy-from-slice.ensures.after ∙ part_bytes_at 14 _ d at size (omega (arith, c.told-directory)))
+    ap (λ name. record { inode = word_at d (16 * c.args.e); name = name }) (c.copy_from_slice.ensures.after ∙ part_bytes_at 14 _ d at size (omega (arith, c.told-directory)))

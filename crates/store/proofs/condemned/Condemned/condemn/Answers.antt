@@ -13,8 +13,8 @@ pub returns-then-among : goal.returns-then-among
 returns-then-among c =
     condemns_again c.args.total c.args.n (listed c.args.self.now) c.if-n-total.false (sym c.if-among.ensures.answer)
 
-pub returns-then-self-ge-MAX-CONDEMNED : goal.returns-then-self-ge-MAX-CONDEMNED
-returns-then-self-ge-MAX-CONDEMNED c =
+pub returns-then-self-ge-MAX_CONDEMNED : goal.returns-then-self-ge-MAX_CONDEMNED
+returns-then-self-ge-MAX_CONDEMNED c =
     let size = length-take c.args.self.now.count c.args.self.now.numbers in
     rw c.bare.ensures (condemns-full c.args.total c.args.n (listed c.args.self.now) c.if-n-total.false (sym c.if-among.ensures.answer) (omega (arith, c.if-among.ensures.places)))
 

@@ -11,8 +11,8 @@ returns-then-n-count g c = record {
 
 pub returns-then-n-eq0 : goal.returns-then-n-eq0
 returns-then-n-eq0 g c =
-    rw c.from-part.ensures (fetch_even g.A.Store.laws g.B.Store.laws c.args.self.now c.args.n c.count.result c.count.ensures c.if-n-count.false c.if-n-eq0.true _ _ _ c.fetch.ensures)
+    rw c.from_part.ensures (fetch_even g.A.Store.laws g.B.Store.laws c.args.self.now c.args.n c.count.result c.count.ensures c.if-n-count.false c.if-n-eq0.true _ _ _ c.fetch.ensures)
 
 pub returns-else-n-eq0 : goal.returns-else-n-eq0
 returns-else-n-eq0 g c =
-    rw c.from-part-else-n-eq0.ensures (fetch_odd g.A.Store.laws g.B.Store.laws c.args.self.now c.args.n c.count.result c.count.ensures c.if-n-count.false c.if-n-eq0.false _ _ _ c.fetch-else-n-eq0.ensures)
+    rw c.from_part-else-n-eq0.ensures (fetch_odd g.A.Store.laws g.B.Store.laws c.args.self.now c.args.n c.count.result c.count.ensures c.if-n-count.false c.if-n-eq0.false _ _ _ c.fetch-else-n-eq0.ensures)

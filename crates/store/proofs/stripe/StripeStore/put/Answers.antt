@@ -14,8 +14,8 @@ returns-then-n-count g c = record {
 
 pub returns-then-n-eq0 : goal.returns-then-n-eq0
 returns-then-n-eq0 g c =
-    rw c.from-part.ensures (put_even g.A.Store.laws g.B.Store.laws c.args.self.now c.args.n c.count.result c.count.ensures c.if-n-count.false c.if-n-eq0.true _ _ _ c.put.ensures)
+    rw c.from_part.ensures (put_even g.A.Store.laws g.B.Store.laws c.args.self.now c.args.n c.count.result c.count.ensures c.if-n-count.false c.if-n-eq0.true _ _ _ c.put.ensures)
 
 pub returns-else-n-eq0 : goal.returns-else-n-eq0
 returns-else-n-eq0 g c =
-    rw c.from-part-else-n-eq0.ensures (put_odd g.A.Store.laws g.B.Store.laws c.args.self.now c.args.n c.count.result c.count.ensures c.if-n-count.false c.if-n-eq0.false _ _ _ c.put-else-n-eq0.ensures)
+    rw c.from_part-else-n-eq0.ensures (put_odd g.A.Store.laws g.B.Store.laws c.args.self.now c.args.n c.count.result c.count.ensures c.if-n-count.false c.if-n-eq0.false _ _ _ c.put-else-n-eq0.ensures)

@@ -1,5 +1,5 @@
 -- A cover outside the key, one that is refused, one that is added.
-use Rattle.std.proofs.Common.{◌≡◌, true, false, cond, ◌&&◌, [], get_or, is_ok, Err, sym, refl, ap, ◌∙◌}
+use Rattle.std.proofs.Common.{◌≡◌, true, false, ◌&&◌, [], get_or, is_ok, Err, sym, ap, ◌∙◌}
 use Rattle.std.proofs.lemmas.Result.{err_from_is_err_and}
 use Rattle.std.proofs.lemmas.Bool.{cond-true, cond-false, and_right}
 use Rattle.wallet.specs.Levels.{xor_block}
@@ -17,21 +17,21 @@ returns-then-not-holds g c =
       sum = sym (cond-false (key_of c.args.self.now c.args.cover && true) _ c.args.sum.now skipped);
     }
 
-pub returns-in-err-placed : goal.returns-in-err-placed
-returns-in-err-placed g c =
+pub returns-in_err-placed : goal.returns-in_err-placed
+returns-in_err-placed g c =
     let l = c.args.self.now in
     let i = c.args.cover in
     let ms = g.S.Store.marks c.args.store.now in
-    let p = err_from_is_err_and c.from-residual.result c.from-residual.ensures.1 in
-    let came = p.1 ∙ ap Err p.2 ∙ c.in-err-placed.ensures in
+    let p = err_from_is_err_and c.from_residual.result c.from_residual.ensures.1 in
+    let came = p.1 ∙ ap Err p.2 ∙ c.in_err-placed.ensures in
     let in' = sym c.holds.ensures ∙ c.if-not-holds.false in
     let refused = ap is_ok p.1 in
     let below = sym (ok-below l.number i c.args.b c.fetch.result) ∙ ap is_ok (sym came) ∙ refused in
-    let stopped = and_right (key_of l i) (is_ok c.from-residual.result) refused in
+    let stopped = and_right (key_of l i) (is_ok c.from_residual.result) refused in
     record {
       answer = came ∙ answer_inside l ms c.args.b i c.place-place.result c.fetch.result in' c.place-place.ensures c.fetch.ensures.answer;
-      buffer = c.fetch.ensures.buffer ∙ cond-false (is_ok c.fetch.result) _ c.args.block.now below ∙ sym (cond-false (key_of l i && is_ok c.from-residual.result) _ c.args.block.now stopped);
-      sum = sym (cond-false (key_of l i && is_ok c.from-residual.result) _ c.args.sum.now stopped);
+      buffer = c.fetch.ensures.buffer ∙ cond-false (is_ok c.fetch.result) _ c.args.block.now below ∙ sym (cond-false (key_of l i && is_ok c.from_residual.result) _ c.args.block.now stopped);
+      sum = sym (cond-false (key_of l i && is_ok c.from_residual.result) _ c.args.sum.now stopped);
     }
 
 pub returns : goal.returns
@@ -42,11 +42,11 @@ returns g c =
     let bs = g.S.Store.blocks c.args.store.now in
     let in' = sym c.holds.ensures ∙ c.if-not-holds.false in
     let yes' : (key_of l i && true) ≡ true = ap (λ x. x && true) in' in
-    let came = c.in-ok-placed.ensures in
+    let came = c.in_ok-placed.ensures in
     let ok = sym (ok-below l.number i c.args.b c.fetch.result) ∙ ap is_ok (sym came) in
     let fetched = c.fetch.ensures.buffer ∙ cond-true (is_ok c.fetch.result) _ _ ok ∙ ap (λ n. get_or bs n []) c.place-place.ensures in
     record {
       answer = came ∙ answer_inside l ms c.args.b i c.place-place.result c.fetch.result in' c.place-place.ensures c.fetch.ensures.answer;
       buffer = fetched ∙ sym (cond-true (key_of l i && true) _ c.args.block.now yes');
-      sum = c.xor-into.ensures ∙ ap (xor_block c.args.sum.now) fetched ∙ sym (cond-true (key_of l i && true) _ c.args.sum.now yes');
+      sum = c.xor_into.ensures ∙ ap (xor_block c.args.sum.now) fetched ∙ sym (cond-true (key_of l i && true) _ c.args.sum.now yes');
     }

@@ -16,8 +16,8 @@ returns-then-b-self g c = record {
 pub loop-cover-init : goal.loop-cover-init
 loop-cover-init g c = (passed_none c.args.self.now (g.S.Store.marks c.args.store.now) c.args.b, summed-none c.args.self.now (g.S.Store.blocks c.args.store.now) c.args.b (replicate 512 0) (length-replicate {A = ℕ} 512 0))
 
-pub add-cover-requires : goal.add-cover-requires
-add-cover-requires g c = record { cover = omega (arith, c.args.self.now.narrow); block = omega (arith, c.args.self.now.short) }
+pub add_cover-requires : goal.add_cover-requires
+add_cover-requires g c = record { cover = omega (arith, c.args.self.now.narrow); block = omega (arith, c.args.self.now.short) }
 
 pub loop-cover-preserved : goal.loop-cover-preserved
 loop-cover-preserved g c =
@@ -25,20 +25,20 @@ loop-cover-preserved g c =
     let ms = g.S.Store.marks c.args.store.now in
     let bs = g.S.Store.blocks c.args.store.now in
     let i = c.loop-cover.cover in
-    let added = c.in-ok-add-cover.ensures in (
+    let added = c.in_ok-add_cover.ensures in (
       passed_more l ms c.args.b i c.loop-cover-test.true c.loop-cover.invariant.0 (ap is_ok (sym added.answer)),
-      summed-more l bs c.args.b (replicate 512 0) i c.loop-cover.sum c.add-cover.new.sum true refl c.loop-cover.invariant.1 added.sum,
+      summed-more l bs c.args.b (replicate 512 0) i c.loop-cover.sum c.add_cover.new.sum true refl c.loop-cover.invariant.1 added.sum,
     )
 
-pub returns-in-err-add-cover : goal.returns-in-err-add-cover
-returns-in-err-add-cover g c =
+pub returns-in_err-add_cover : goal.returns-in_err-add_cover
+returns-in_err-add_cover g c =
     let l = c.args.self.now in
     let ms = g.S.Store.marks c.args.store.now in
     let i = c.loop-cover.cover in
-    let p = err_from_is_err_and c.from-residual.result c.from-residual.ensures.1 in
+    let p = err_from_is_err_and c.from_residual.result c.from_residual.ensures.1 in
     record {
-      answer = p.1 ∙ ap Err p.2 ∙ refused_at l ms c.args.b i c.loop-cover-test.true c.if-b-self.false c.loop-cover.invariant.0 c.in-err-add-cover.field-0.0 c.in-err-add-cover.ensures.answer;
-      buffer = sym (cond-false (is_ok c.from-residual.result) _ c.args.buffer.now (ap is_ok p.1));
+      answer = p.1 ∙ ap Err p.2 ∙ refused_at l ms c.args.b i c.loop-cover-test.true c.if-b-self.false c.loop-cover.invariant.0 c.in_err-add_cover.field-0.0 c.in_err-add_cover.ensures.answer;
+      buffer = sym (cond-false (is_ok c.from_residual.result) _ c.args.buffer.now (ap is_ok p.1));
     }
 
 pub returns : goal.returns

@@ -1,5 +1,4 @@
 -- The covers passed were accepted, their blocks are held, and the sum is theirs.
-use Rattle.std.proofs.Common.{◌≡◌}
 use Rattle.wallet.proofs.Gathering.{Gathered}
 use Rattle.wallet.proofs.level.Level.gather.Given as goal
 

@@ -20,17 +20,17 @@ returns-then-b-self g c =
 
 pub scatter-requires : goal.scatter-requires
 scatter-requires g c =
-    let gathered = c.in-ok-gather.ensures in
+    let gathered = c.in_ok-gather.ensures in
     record { within = c.if-b-self.false; live = ap is_ok (sym gathered.answer); held = gathered.held refl }
 
-pub returns-in-err-gather : goal.returns-in-err-gather
-returns-in-err-gather g c =
+pub returns-in_err-gather : goal.returns-in_err-gather
+returns-in_err-gather g c =
     let s = c.args.store.now in
-    let p = err_from_is_err_and c.from-residual.result c.from-residual.ensures.1 in
+    let p = err_from_is_err_and c.from_residual.result c.from_residual.ensures.1 in
     let refused = ap is_ok p.1 in
     record {
-      answer = p.1 ∙ ap Err p.2 ∙ c.in-err-gather.ensures.answer;
-      after = sym (cond-false (is_ok c.from-residual.result) _ (g.S.Store.blocks s) refused);
+      answer = p.1 ∙ ap Err p.2 ∙ c.in_err-gather.ensures.answer;
+      after = sym (cond-false (is_ok c.from_residual.result) _ (g.S.Store.blocks s) refused);
       moves = g.S.Store.laws.stays s;
       refused = λ _. refl;
       spares = λ ok. absurd (false≢true (sym refused ∙ ok));
@@ -43,7 +43,7 @@ returns g c =
     let b = c.args.b in
     let contents = c.args.contents.now in
     let bs = g.S.Store.blocks s in
-    let gathered = c.in-ok-gather.ensures in
+    let gathered = c.in_ok-gather.ensures in
     let done = c.scatter.ensures in
     let filled = done.after ∙ spread-filled l b contents bs c.if-b-self.false c.gather.new.sum (gathered.sum refl) in
     let ok = ap is_ok done.answer in

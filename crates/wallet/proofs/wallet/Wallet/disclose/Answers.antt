@@ -6,8 +6,8 @@ use Rattle.wallet.proofs.wallet.Wallet.disclose.Goals as goal
 pub returns-then-d-gt0 : goal.returns-then-d-gt0
 returns-then-d-gt0 g c = record { answer = search rules; places = search rules; withheld = withheld_in c.args.self.now.layout c.args.d }
 
-pub returns-in-default : goal.returns-in-default
-returns-in-default g c = record { answer = search rules; places = search rules; withheld = withheld_in c.args.self.now.layout c.args.d }
+pub returns-in_default : goal.returns-in_default
+returns-in_default g c = record { answer = search rules; places = search rules; withheld = withheld_in c.args.self.now.layout c.args.d }
 
 pub returns : goal.returns
 returns g c = record { answer = search rules; places = search rules; withheld = withheld_in c.args.self.now.layout c.args.d }

@@ -10,10 +10,10 @@ pub returns : goal.returns
 returns g c =
     let w = meaning g.S.Store.blocks g.S.Store.marks c.args.self.now in
     let w' = meaning g.S.Store.blocks g.S.Store.marks (record { store = c.put.new.store; layout = c.open.new.self.layout; chosen = c.open.new.self.chosen }) in
-    let l = c.in-ok-opened.opened in
+    let l = c.in_ok-opened.opened in
     let b = c.args.b in
     let contents = c.args.contents.now in
-    let opened = c.in-ok-opened.ensures in
+    let opened = c.in_ok-opened.ensures in
     let same = opened.store in
     let found = opened.answer in
     let r = c.put.result in
