@@ -15,7 +15,7 @@ use Rattle.wallet.specs.Wallets.{State, key_at, shown_under, marks_under, with_c
 use Rattle.law.specs.Alone.{Goes, goes, requests, replies_to, lone_step, blocks_under, marks_at, Ran}
 use Rattle.law.specs.Runs.{Call, lay_out, add_key, take_key, disclose, choose, by_level, by_store, Reply, disclosed, carried, step, run, SoundWallet}
 use Rattle.law.specs.Services.{Service, Keeps}
-use Rattle.law.specs.Withheld.{Open, disclosing, asks_level, below, opening, brings_key, all_bring_keys, Begins, Observed, SameOpenCalls, TellTheSame, Goes_on, ShowsNothingAbove}
+use Rattle.law.specs.Withheld.{Open, disclosing, asks_level, below, opening, brings_key, all_bring_keys, Begins, Observed, SameOpenCalls, TellTheSame, GoesOn, ShowsNothingAbove}
 use Rattle.law.proofs.Keeping.{Longer, Leads, laid_out, step-leads, run-leads, new-sound}
 use Rattle.law.proofs.Serving.{Serves, Does, step-does, level_itself, step-serves, step-spares}
 use Rattle.law.proofs.Showing.{level_marks-same}
@@ -270,10 +270,10 @@ module _ {C V M : Type 0} (s : Service C V M) where
     begun-under key = ap (shown bits laid (entry key)) begun-blocks
 
   -- where a run goes on, these are the first keys, and they show what they showed of the new wallet
-  goes-on_shows : (k n : ℕ) (keys : List ℕ) (w : State) (o : Observed C V M) (g : Goes_on s k n keys w o) (ms : ℕ → List Mark) → ((j : ℕ) → j < length keys → marks_at (record { count = k; blocks = n }) j (get_or keys j 0) w ≡ ms j) → Shown (record { count = k; blocks = n }) keys ms o.before
+  goes-on_shows : (k n : ℕ) (keys : List ℕ) (w : State) (o : Observed C V M) (g : GoesOn s k n keys w o) (ms : ℕ → List Mark) → ((j : ℕ) → j < length keys → marks_at (record { count = k; blocks = n }) j (get_or keys j 0) w ≡ ms j) → Shown (record { count = k; blocks = n }) keys ms o.before
   goes-on_shows k n keys w o g ms marks = subst (Shown (record { count = k; blocks = n }) keys ms) (sym g.starts) (begun-shows k n keys w g.first g.begins ms marks)
 
-  goes-on_under : (k n : ℕ) (keys : List ℕ) (w : State) (o : Observed C V M) (g : Goes_on s k n keys w o) (key : ℕ) → blocks_under (record { count = k; blocks = n }) key o.before ≡ blocks_under (record { count = k; blocks = n }) key w
+  goes-on_under : (k n : ℕ) (keys : List ℕ) (w : State) (o : Observed C V M) (g : GoesOn s k n keys w o) (key : ℕ) → blocks_under (record { count = k; blocks = n }) key o.before ≡ blocks_under (record { count = k; blocks = n }) key w
   goes-on_under k n keys w o g key = ap (blocks_under (record { count = k; blocks = n }) key) g.starts ∙ begun-under k n keys w g.first g.begins key
 
   pub shows_nothing_above : Keeps s → ShowsNothingAbove s

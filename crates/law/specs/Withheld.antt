@@ -68,7 +68,7 @@ module _ {C V M : Type 0} (s : Service C V M) where
     pub contents : (j : ℕ) → j < length keys → blocks_under covers (slice_index keys j) one.after ≡ blocks_under covers (slice_index keys j) two.after
 
   -- A run that goes on where a new wallet's beginning ended.
-  pub record Goes_on (k n : ℕ) (keys : List ℕ) (w : State) (o : Observed C V M) : Type 0 where
+  pub record GoesOn (k n : ℕ) (keys : List ℕ) (w : State) (o : Observed C V M) : Type 0 where
     pub first : List (Call C)
     pub begins : Begins s k n keys w first
     pub starts : o.before ≡ (run s (lay_out k n ∷ first) w).1
@@ -79,8 +79,8 @@ module _ {C V M : Type 0} (s : Service C V M) where
   abbrev pub ShowsNothingAbove : Type 0
   ShowsNothingAbove =
       (k n : ℕ) (keys : List ℕ) (w₁ w₂ : State) (one two : Observed C V M)
-      → Goes_on k n keys w₁ one
-      → Goes_on k n keys w₂ two
+      → GoesOn k n keys w₁ one
+      → GoesOn k n keys w₂ two
       → Alike k n keys w₁ w₂
       → SameOpenCalls (length keys) one two
       → TellTheSame (record { count = k; blocks = n }) keys one two
