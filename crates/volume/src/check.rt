@@ -120,16 +120,24 @@ fn inspect<S: Store>(store: &S) -> Result<Result<Volume, Rule>, Fault>
     inspect_inodes(store, &superblock)
 }
 
+// The first broken rule of a live volume, or none where it is sound.
+fn first_broken<S: Store>(store: &S) -> Result<Option<Rule>, Fault>
+    requires { is_ok (all_live (S.Store.marks store.now)) ≡ true }
+    ensures { result ≡ Ok (first_broken (S.Store.blocks store.now)) }
+{
+    match inspect(store)? {
+        Ok(_) => Ok(None),
+        Err(rule) => Ok(Some(rule)),
+    }
+}
+
 // Question 2 of every block, then the first broken rule, or none where the volume is sound.
 pub fn check<S: Store>(store: &S) -> Result<Option<Rule>, Fault>
     ensures sound { result ≡ Ok None → SoundVolume (S.Store.blocks store.now) }
     ensures answer { result ≡ check_call (S.Store.blocks store.now) (S.Store.marks store.now) }
 {
     all_live(store)?;
-    match inspect(store)? {
-        Ok(_) => Ok(None),
-        Err(rule) => Ok(Some(rule)),
-    }
+    first_broken(store)
 }
 
 // Questions 2 and 17, as every call on files asks them; a sound volume comes with what was read to find that out.
