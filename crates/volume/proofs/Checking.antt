@@ -1,14 +1,13 @@
 -- A rule that is broken or kept, as the check finds it.
-use Rattle.std.proofs.Common.{◌≡◌, ℕ, ◌*◌, ◌/◌, Bool, true, false, List, length, take, Some, None, Ok, Err, Option, Result, sym, ap, ◌∙◌, arith}
+use Rattle.std.proofs.Common.{◌≡◌, ℕ, ◌*◌, ◌/◌, Bool, true, false, List, length, take, Some, Option, sym, ap, ◌∙◌}
 use Rattle.store.specs.Stores.{Block}
 use Rattle.layout.specs.Entries.{Entries, entry_at}
 use Rattle.volume.specs.Files.{file_blocks}
 use Rattle.layout.specs.Inodes.{blocks_for, inode_of}
 use Rattle.volume.specs.Rules.{super_of, directory_of}
-use Rattle.volume.specs.Openings.{Inspected, Loaded}
+use Rattle.volume.specs.Openings.{Loaded}
 use Rattle.volume.specs.Soundness.{unless}
 use Rattle.layout.specs.declared.inode.Inode.{Inode}
-use Rattle.volume.specs.declared.loaded.Volume.{Volume}
 use Rattle.volume.specs.declared.rule.Rule.{Rule}
 
 module _ (holds : Bool) (rule : Rule) (later : Option Rule) where
@@ -33,8 +32,3 @@ loaded_by v b root bytes read first entries front long =
       front = sym (ap (λ i. take (512 * blocks_for i.size) bytes) first) ∙ front ∙ ap (λ i. file_blocks v i.addresses (blocks_for i.size)) first;
       long = long;
     }
-
--- a volume came, so no rule is broken
-pub nothing_broken : (v : List Block) (broken : Option Rule) (r : Result Volume Rule) (o : Volume) → r ≡ Ok o → Inspected v broken (Ok r) → broken ≡ None
-nothing_broken v broken (Ok p) o is found = found.0
-nothing_broken v broken (Err rule) o is found = let z : ◌≡◌ {A = ℕ} 0 1 = cc in absurd (omega arith)
