@@ -1,9 +1,8 @@
 -- Laws of the free list's steps: giving back pushes a number, taking pops the last one.
-use Rattle.std.proofs.Common.{◌≡◌, ℕ, zero, suc, ◌+◌, ◌-◌, ◌*◌, ◌<◌, ◌≤◌, List, [], ◌∷◌, ◌++◌, reverse, length, get_or, set, replicate, sym, refl, ap, ◌∙◌, ⊎_elim, add-one, arith}
+use Rattle.std.proofs.Common.{◌≡◌, ℕ, zero, suc, ◌+◌, ◌-◌, ◌*◌, ◌<◌, ◌≤◌, List, [], ◌∷◌, ◌++◌, reverse, length, get_or, set, take, drop, replicate, sym, refl, ap, ◌∙◌, ⊎_elim, add-one, arith}
 use Rattle.std.proofs.lemmas.List.FromFn.{length-map-range_with_len, map-range_with_len_more}
-use Rattle.std.proofs.lemmas.List.{ext_get_or, get_or_append_left, get_or_push, length_push, append-nil, append_assoc, reverse-append, map-id, set_at}
+use Rattle.std.proofs.lemmas.List.{ext_get_or, get_or_append_left, get_or_push, length_push, append-nil, append_assoc, reverse-append, set_at, take-replicate, drop-replicate}
 use Rattle.std.proofs.lemmas.Bool.{cases_lt}
-use Rattle.std.specs.List.{range_with_len}
 use Rattle.store.specs.Stores.{Block}
 use Rattle.layout.specs.Superblocks.{nfree_of, free_at, free_list}
 use Rattle.layout.specs.Words.{with_word}
@@ -58,9 +57,6 @@ gives_last b xs x = ap (gives b) (reverse-append xs (x ∷ []))
 -- one turn of a loop that gives back from last to first
 pub gives_next : (b next whole : Block) (xs ys : List ℕ) (x : ℕ) → next ≡ given b x → ys ≡ xs ++ (x ∷ []) → gives b (reverse ys) ≡ whole → gives next (reverse xs) ≡ whole
 gives_next b next whole xs ys x is split sofar = ap (λ c. gives c (reverse xs)) is ∙ sym (gives_last b xs x) ∙ ap (λ zs. gives b (reverse zs)) (sym split) ∙ sofar
-
-pub counting_more : (a n : ℕ) → range_with_len a (n + 1) ≡ range_with_len a n ++ ((a + n) ∷ [])
-counting_more a n = sym (map-id (range_with_len a (n + 1))) ∙ map-range_with_len_more (λ x. x) a n (a + n) refl ∙ ap (λ xs. xs ++ ((a + n) ∷ [])) (map-id (range_with_len a n))
 
 pub length-gives : (ns : List ℕ) (b : Block) → length (gives b ns) ≡ length b
 unfolding gives
@@ -149,12 +145,18 @@ free_list-takes b long (suc n) some =
     rest ∙ ap (λ xs. xs ++ reverse (numbers_taken b n)) one ∙ append_assoc (free_list (taken (takes b n))) (next_free (takes b n) ∷ []) (reverse (numbers_taken b n)) ∙ ap (λ xs. free_list (taken (takes b n)) ++ xs) (sym numbers)
 
 -- the addresses of a file, one more taken
-pub addresses_next : (b : Block) (j x : ℕ) (addresses : List ℕ) → j < 8 → addresses ≡ numbers_taken b j ++ replicate (8 - j) 0 → x ≡ next_free (takes b j) → set addresses j x ≡ numbers_taken b (j + 1) ++ replicate (8 - (j + 1)) 0
-addresses_next b j x addresses few sofar is =
+pub addresses_next : (b : Block) (size j x : ℕ) (addresses : List ℕ) → j < size → addresses ≡ numbers_taken b j ++ replicate (size - j) 0 → x ≡ next_free (takes b j) → set addresses j x ≡ numbers_taken b (j + 1) ++ replicate (size - (j + 1)) 0
+addresses_next b size j x addresses few sofar is =
     let numbers = numbers_taken b j in
-    let rest = replicate {A = ℕ} (8 - (j + 1)) 0 in
-    let left : 8 - j ≡ suc (8 - (j + 1)) = omega arith in
+    let rest = replicate {A = ℕ} (size - (j + 1)) 0 in
+    let left : size - j ≡ suc (size - (j + 1)) = omega arith in
     ap (λ xs. set xs j x) (sofar ∙ ap (λ m. numbers ++ replicate m 0) left) ∙ set_at numbers 0 rest x j (length-numbers_taken b j) ∙ ap (λ y. numbers ++ (y ∷ rest)) is ∙ sym (append_assoc numbers (next_free (takes b j) ∷ []) rest) ∙ ap (λ xs. xs ++ rest) (sym (numbers_taken-more b j))
 
-pub addresses_none : (b : Block) → replicate 8 0 ≡ numbers_taken b 0 ++ replicate 8 0
-addresses_none b = ap (λ xs. xs ++ replicate 8 0) (sym (numbers_taken-none b))
+pub addresses_none : (b : Block) (size : ℕ) → size ≤ 8 → take size (replicate 8 0) ≡ numbers_taken b 0 ++ replicate (size - 0) 0
+addresses_none b size few = let e : size ≡ size - 0 = omega arith in take-replicate size 8 0 few ∙ ap (λ xs. xs ++ replicate size 0) (sym (numbers_taken-none b)) ∙ ap (λ m. numbers_taken b 0 ++ replicate m 0) e
+
+-- and all of them, with the zeros behind
+pub addresses_all : (b : Block) (size : ℕ) (addresses : List ℕ) → addresses ≡ numbers_taken b size ++ replicate (size - size) 0 → addresses ++ drop size (replicate 8 0) ≡ numbers_taken b size ++ replicate (8 - size) 0
+addresses_all b size addresses all =
+    let none : size - size ≡ 0 = omega arith in
+    ap (λ xs. xs ++ drop size (replicate 8 0)) (all ∙ ap (λ m. numbers_taken b size ++ replicate m 0) none ∙ append-nil (numbers_taken b size)) ∙ ap (λ xs. numbers_taken b size ++ xs) (drop-replicate size 8 0)

@@ -3,13 +3,6 @@ use Rattle.std.specs.Prelude.{◌≡◌, false, List, is_ok, Ok, Err, Result}
 use Rattle.store.specs.Stores.{Block, Mark}
 use Rattle.faults.specs.declared.Fault.{Fault}
 
--- Accepted puts alone lead from the store s to t, and leave these blocks.
-pub record Leads {S : Type 0} (blocks : S → List Block) (marks : S → List Mark) (moved : S → S → Type 0) (left : List Block) (s t : S) (r : Result (Unit {0}) Fault) : Type 0 where
-  pub answer : r ≡ Ok tt
-  pub after : blocks t ≡ left
-  pub moves : moved s t
-  pub keeps : marks t ≡ marks s
-
 -- A call that gives this answer and leaves these blocks, by accepted puts alone; refused, it leaves the whole store as it was.
 pub record Served {S : Type 0} (blocks : S → List Block) (marks : S → List Mark) (moved : S → S → Type 0) (call : Result (Unit {0}) Fault × List Block) (s t : S) (r : Result (Unit {0}) Fault) : Type 0 where
   pub answer : r ≡ call.0

@@ -1,6 +1,5 @@
 // The steps of the free list that a superblock holds: giving blocks back, and taking them.
 ghost use Rattle.std.specs.Prelude.{◌≡◌, ◌+◌, ◌-◌, ◌<◌, ◌≤◌, ◌++◌, reverse, length, replicate};
-ghost use Rattle.std.specs.List.{range_with_len};
 ghost use Rattle.layout.specs.Superblocks.{nfree_of};
 ghost use Rattle.allotment.specs.FreeSteps.{given, gives, taken, next_free, takes, numbers_taken};
 
@@ -21,25 +20,13 @@ pub(crate) fn give(superblock: &mut Block, number: u16)
     set_word(superblock, NFREE, nfree + 1);
 }
 
-// Gives back the blocks of a file, from last to first.
+// Gives back the blocks of these numbers, from last to first.
 pub fn give_back(superblock: &mut Block, numbers: &[u16])
     requires { nfree_of superblock.old + length numbers.now ≤ 100 }
     ensures { superblock.new ≡ gives superblock.old (reverse numbers.now) }
 {
-    for j in (0..numbers.len()).rev() {
-        give(superblock, numbers[j]);
-    }
-}
-
-// Gives back the blocks of a new volume, from the last one down to block `low`.
-pub(crate) fn give_down(superblock: &mut Block, low: usize, count: usize)
-    requires few { nfree_of superblock.old + (count - low) ≤ 100 }
-    requires order { low ≤ count }
-    requires small { count ≤ 100 }
-    ensures { superblock.new ≡ gives superblock.old (reverse (range_with_len low (count - low))) }
-{
-    for n in (low..count).rev() {
-        give(superblock, n as u16);
+    for number in numbers.iter().rev() {
+        give(superblock, *number);
     }
 }
 
@@ -65,8 +52,8 @@ pub fn take_blocks(superblock: &mut Block, n: usize) -> [u16; 8]
     ensures after { superblock.new ≡ takes superblock.old n }
 {
     let mut addresses = [0; 8];
-    for j in 0..n {
-        addresses[j] = take_block(superblock);
+    for address in addresses[..n].iter_mut() {
+        *address = take_block(superblock);
     }
     addresses
 }

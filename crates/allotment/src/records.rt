@@ -1,18 +1,15 @@
 // Records replaced, in a block and in a volume: inodes and directory entries.
-ghost use Rattle.std.specs.Prelude.{◌≡◌, ◌+◌, ◌/◌, ◌<◌, ◌≤◌, true, length, is_ok, slice_index};
-ghost use Rattle.store.specs.Stores.{all_live};
+ghost use Rattle.std.specs.Prelude.{◌≡◌, ◌+◌, ◌/◌, ◌<◌, ◌≤◌, length, slice_index};
+ghost use Rattle.store.specs.Lives.{Leads};
 ghost use Rattle.layout.specs.Inodes.{inode_block};
-ghost use Rattle.allotment.specs.Calls.{Leads};
 ghost use Rattle.allotment.specs.Records.{inode_into, entry_into};
 ghost use Rattle.allotment.specs.Volumes.{with_inode, with_entry_number, with_entry};
 
-use crate::blocks::put_block;
-use faults::Fault;
 use layout::entry::ENTRY_SIZE;
 use layout::inode::{INODE_SIZE, Inode};
 use layout::words::set_word;
 use store::interface::{Block, Store};
-use volume::visit::load;
+use store::liveness::LiveMut;
 
 // The directory entries of a block.
 const ENTRIES_PER_BLOCK: usize = 32;
@@ -35,55 +32,46 @@ pub(crate) fn set_entry(block: &mut Block, at: usize, inode: u16, name: &[u8; 14
 }
 
 // Replaces inode i of a volume.
-pub fn put_inode<S: Store>(store: &mut S, i: u16, inode: &Inode) -> Result<(), Fault>
-    requires live { is_ok (all_live (S.Store.marks store.old)) ≡ true }
-    requires within { inode_block i < length (S.Store.blocks store.old) }
-    ensures { Leads S.Store.blocks S.Store.marks S.Store.moved (with_inode (S.Store.blocks store.old) i inode.now) store.old store.new result }
+pub fn put_inode<S: Store>(live: &mut LiveMut<'_, S>, i: u16, inode: &Inode)
+    requires { inode_block i < length (S.Store.blocks live.old.store.now) }
+    ensures { Leads S.Store.blocks S.Store.moved (with_inode (S.Store.blocks live.old.store.now) i inode.now) live.old.store live.new.store }
 {
     let place = i as usize + 31;
-    let mut block = load(store, place / 16)?;
-    set_inode(&mut block, INODE_SIZE * (place % 16), inode);
-    put_block(store, place / 16, &block)
+    live.change(place / 16, |block| {
+        set_inode(block, INODE_SIZE * (place % 16), inode)
+    });
 }
 
 // Replaces the number in entry e of the directory, and leaves the name.
 pub fn put_entry_number<S: Store>(
-    store: &mut S,
+    live: &mut LiveMut<'_, S>,
     addresses: &[u16; 8],
     e: usize,
     number: u16,
-) -> Result<(), Fault>
-    requires live { is_ok (all_live (S.Store.marks store.old)) ≡ true }
+)
     requires few { e < 256 }
-    requires within { slice_index addresses.now (e / 32) < length (S.Store.blocks store.old) }
-    ensures { Leads S.Store.blocks S.Store.marks S.Store.moved (with_entry_number (S.Store.blocks store.old) addresses.now e number) store.old store.new result }
+    requires within { slice_index addresses.now (e / 32) < length (S.Store.blocks live.old.store.now) }
+    ensures { Leads S.Store.blocks S.Store.moved (with_entry_number (S.Store.blocks live.old.store.now) addresses.now e number) live.old.store live.new.store }
 {
     let n = addresses[e / ENTRIES_PER_BLOCK] as usize;
-    let mut block = load(store, n)?;
-    set_word(&mut block, ENTRY_SIZE * (e % ENTRIES_PER_BLOCK), number);
-    put_block(store, n, &block)
+    let at = ENTRY_SIZE * (e % ENTRIES_PER_BLOCK);
+    live.change(n, |block| set_word(block, at, number));
 }
 
-// Replaces entry e of the directory.
+// Replaces entry e of the directory. Alike to the function above it, but for the change: a closure for that would stand in the contracts of
+// both.
 pub fn put_entry<S: Store>(
-    store: &mut S,
+    live: &mut LiveMut<'_, S>,
     addresses: &[u16; 8],
     e: usize,
     number: u16,
     name: &[u8; 14],
-) -> Result<(), Fault>
-    requires live { is_ok (all_live (S.Store.marks store.old)) ≡ true }
+)
     requires few { e < 256 }
-    requires within { slice_index addresses.now (e / 32) < length (S.Store.blocks store.old) }
-    ensures { Leads S.Store.blocks S.Store.marks S.Store.moved (with_entry (S.Store.blocks store.old) addresses.now e number name.now) store.old store.new result }
+    requires within { slice_index addresses.now (e / 32) < length (S.Store.blocks live.old.store.now) }
+    ensures { Leads S.Store.blocks S.Store.moved (with_entry (S.Store.blocks live.old.store.now) addresses.now e number name.now) live.old.store live.new.store }
 {
     let n = addresses[e / ENTRIES_PER_BLOCK] as usize;
-    let mut block = load(store, n)?;
-    set_entry(
-        &mut block,
-        ENTRY_SIZE * (e % ENTRIES_PER_BLOCK),
-        number,
-        name,
-    );
-    put_block(store, n, &block)
+    let at = ENTRY_SIZE * (e % ENTRIES_PER_BLOCK);
+    live.change(n, |block| set_entry(block, at, number, name));
 }

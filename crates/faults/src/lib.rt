@@ -37,15 +37,18 @@ pub enum Question {
 }
 
 impl Question {
+    // The project's number of the question. It has a name of its own, since `u8::from` would not say that it is the number which is printed.
     pub fn number(self) -> u8
         ensures { result ≡ number_of self }
     {
         self as u8
     }
+}
 
-    // The refusal in words, of the questions whose fault names no place.
-    fn refusal(self) -> &'static str {
-        match self {
+impl fmt::Display for Question {
+    // The refusal in words, for a fault that names no place.
+    fn fmt<W: fmt::Write>(&self, f: &mut fmt::Formatter<W>) -> fmt::Result {
+        f.write_str(match self {
             Question::BlockBelowCount => "there is no such block",
             Question::BlockLive => "the block is dead",
             Question::RoomToCondemn => "eight blocks are condemned already",
@@ -71,11 +74,11 @@ impl Question {
             Question::InodeFree => "no inode is free",
             Question::EntryFree => "the directory has no empty entry and 256 in all",
             Question::EnoughFreeBlocks => "there are too few free blocks",
-        }
+        })
     }
 }
 
-// A refusal. A field that has no meaning for its question is 0.
+// A refusal. The record is the project's, the same for every question: a field that has no meaning for its question is 0.
 #[derive(Clone, Copy, Debug, PartialEq, Eq)]
 pub struct Fault {
     pub question: Question,
@@ -85,11 +88,11 @@ pub struct Fault {
     pub rule: u8,
 }
 
-impl Fault {
-    // A refusal of which the question says it all.
-    pub const fn bare(question: Question) -> Fault
-        ensures { result ≡ bare question }
-    {
+// A refusal of which the question says it all.
+impl From<Question> for Fault {
+    ghost from_gives = { λ question fault. fault ≡ bare question };
+
+    fn from(question: Question) -> Fault {
         Fault {
             question,
             level: 0,
@@ -98,29 +101,31 @@ impl Fault {
             rule: 0,
         }
     }
+}
 
+impl Fault {
     // There is no block of that number.
-    pub const fn past_count(block: usize) -> Fault
+    pub fn past_count(block: usize) -> Fault
         ensures { result ≡ past_count block }
     {
         Fault {
             block,
-            ..Fault::bare(Question::BlockBelowCount)
+            ..Fault::from(Question::BlockBelowCount)
         }
     }
 
-    // The block is dead in a plain store, which has no levels and no covers.
-    pub const fn dead_block(block: usize) -> Fault
+    // The block is dead in a plain store, which has no levels and no covers. Not one function with `past_count`: each name says its question.
+    pub fn dead_block(block: usize) -> Fault
         ensures { result ≡ dead_block block 0 0 }
     {
         Fault {
             block,
-            ..Fault::bare(Question::BlockLive)
+            ..Fault::from(Question::BlockLive)
         }
     }
 
     // The same refusal, for the block's number in the store that was called.
-    pub const fn renumbered(self, block: usize) -> Fault
+    pub fn renumbered(self, block: usize) -> Fault
         ensures { result ≡ renumbered block self }
     {
         Fault { block, ..self }
@@ -130,32 +135,23 @@ impl Fault {
 impl fmt::Display for Fault {
     // A sentence with the number and the places that the question names. The level that a call named is for the caller to tell.
     fn fmt<W: fmt::Write>(&self, f: &mut fmt::Formatter<W>) -> fmt::Result {
-        let number = self.question.number();
-        let block = self.block;
-        let level = self.level;
-        let cover = self.cover;
-        let rule = self.rule;
-        match self.question {
-            Question::BlockBelowCount => write!(
-                f,
-                "refused, number {number}: there is no block {block}"
-            ),
-            Question::BlockLive => write!(
-                f,
-                "refused, number {number}: block {block} is dead (level {level}, cover {cover})"
-            ),
-            Question::LevelStanding => write!(
-                f,
-                "refused, number {number}: level {level} does not stand"
-            ),
-            Question::VolumeSound => write!(
-                f,
-                "refused, number {number}: the volume breaks rule S{rule}"
-            ),
-            other => {
-                let words = other.refusal();
-                write!(f, "refused, number {number}: {words}")
+        let Fault {
+            question,
+            level,
+            block,
+            cover,
+            rule,
+        } = *self;
+        let number = question.number();
+        write!(f, "refused, number {number}: ")?;
+        match question {
+            Question::BlockBelowCount => write!(f, "there is no block {block}"),
+            Question::BlockLive => {
+                write!(f, "block {block} is dead (level {level}, cover {cover})")
             }
+            Question::LevelStanding => write!(f, "level {level} does not stand"),
+            Question::VolumeSound => write!(f, "the volume breaks rule S{rule}"),
+            _ => write!(f, "{question}"),
         }
     }
 }

@@ -1,7 +1,7 @@
 // The calls on files: scripts of calls on a volume, each step with the outcome that the rules give.
 #![tactic(auto)]
 
-use anyhow::anyhow;
+use tally::Tally;
 
 mod contents;
 mod filling;
@@ -10,15 +10,8 @@ mod step;
 mod tables;
 
 fn main(rt: HostRuntime) -> anyhow::Result<()> {
-    run(&rt)
-}
-
-fn run(rt: &HostRuntime) -> anyhow::Result<()> {
-    let mut right = scripts::all(rt)?;
-    right &= filling::all(rt)?;
-    if right {
-        Ok(())
-    } else {
-        Err(anyhow!("some cases went wrong"))
-    }
+    let mut tally = Tally::new(rt.alloc());
+    scripts::all(&rt, &mut tally)?;
+    filling::all(&rt, &mut tally)?;
+    tally.verdict()
 }

@@ -1,16 +1,18 @@
-// One call on a volume, and its outcome as a number.
-use crate::contents::{Buffer, fill, holds};
+// One call on a volume, and how it goes.
+use crate::contents::{contents, holds};
 use allotment::format::format;
-use faults::Fault;
+use faults::{Fault, Question};
 use reading::list::{FileRecord, list};
 use reading::read::read;
+use std::alloc::{AllocError, Global};
 use store::interface::Store;
 use volume::check::check;
+use volume::rule::Rule;
 use writing::create::create;
 use writing::remove::remove;
 use writing::write::write;
 
-// What is done. Names are texts; a file's contents come from a seed.
+// What is done. Names are texts; a file's contents come from a seed. An enum, since a table holds no closures.
 #[derive(Clone, Copy)]
 pub enum Step {
     Format(usize),
@@ -24,106 +26,111 @@ pub enum Step {
     Byte(usize, usize),
 }
 
-// A refusal is 1,000 and its number, in the order of the questions.
-pub const REFUSED: usize = 1000;
-
-// A read that brought other bytes, or changed later ones.
-pub const SPOILT: usize = 2000;
-
-fn refused(fault: Fault) -> usize {
-    fault.question.number() as usize + REFUSED
+// What a step that goes through answers.
+#[derive(Clone, Copy, Debug, PartialEq, Eq)]
+pub enum Answer {
+    Done,
+    Sound,
+    Breaks(Rule),
+    // The bytes read, or the files listed.
+    Count(usize),
+    // What is in the byte.
+    Holds(u8),
 }
 
-// Bare success is 0.
-fn bare(answer: Result<(), Fault>) -> usize {
-    match answer {
-        Ok(()) => 0,
-        Err(fault) => refused(fault),
+// Why a step does not go through.
+#[derive(Clone, Copy, Debug, PartialEq, Eq)]
+pub enum Failure {
+    Refused(Question),
+    // What was brought to be filled has something else in it.
+    Spoilt,
+    OutOfMemory,
+}
+
+impl From<Fault> for Failure {
+    fn from(fault: Fault) -> Failure {
+        Failure::Refused(fault.question)
     }
 }
 
-fn number(answer: Result<usize, Fault>) -> usize {
-    match answer {
-        Ok(n) => n,
-        Err(fault) => refused(fault),
+impl From<AllocError> for Failure {
+    fn from(_error: AllocError) -> Failure {
+        Failure::OutOfMemory
     }
 }
 
-// A broken rule is its number, a sound volume 0.
-fn check_all<S: Store>(store: &S) -> usize {
-    match check(store) {
-        Ok(None) => 0,
-        Ok(Some(rule)) => rule.number() as usize,
-        Err(fault) => refused(fault),
-    }
+fn done(answer: Result<(), Fault>) -> Result<Answer, Failure> {
+    answer?;
+    Ok(Answer::Done)
 }
 
-fn write_seeded<S: Store>(store: &mut S, name: &str, len: usize, seed: u8) -> usize {
-    let mut buffer: Buffer = [0; 4097];
-    fill(&mut buffer, seed);
-    let len = len.min(4097);
-    bare(write(store, name.as_bytes(), &buffer[0..len]))
+fn check_all<S: Store>(store: &S) -> Result<Answer, Failure> {
+    Ok(check(store)?.map_or(Answer::Sound, Answer::Breaks))
+}
+
+fn write_seeded<S: Store>(
+    alloc: Global,
+    store: &mut S,
+    name: &str,
+    len: usize,
+    seed: u8,
+) -> Result<Answer, Failure> {
+    let bytes = contents(alloc, seed, len)?;
+    done(write(store, name.as_bytes(), bytes.as_slice()))
 }
 
 // Reads into as many places, and compares; later bytes stay as they were brought.
-fn read_seeded<S: Store>(store: &S, name: &str, room: usize, seed: u8) -> usize {
-    let mut buffer: Buffer = [0xee; 4097];
-    let room = room.min(4097);
-    match read(store, name.as_bytes(), &mut buffer[0..room]) {
-        Ok(size) => {
-            if holds(&buffer, size, seed, 0xee) {
-                size
-            } else {
-                SPOILT
-            }
-        }
-        Err(fault) => {
-            if holds(&buffer, 0, seed, 0xee) {
-                refused(fault)
-            } else {
-                SPOILT
-            }
-        }
+fn read_seeded<S: Store>(
+    alloc: Global,
+    store: &S,
+    name: &str,
+    room: usize,
+    seed: u8,
+) -> Result<Answer, Failure> {
+    let mut buffer = vec![in alloc; 0xeeu8; room]?;
+    let answer = read(store, name.as_bytes(), buffer.as_mut_slice());
+    if !holds(buffer.as_slice(), answer.unwrap_or(0), seed, 0xee) {
+        return Err(Failure::Spoilt);
     }
+    Ok(Answer::Count(answer?))
 }
 
-// How many files are listed; the record behind them stays as it was brought.
-fn list_into<S: Store>(store: &S, room: usize) -> usize {
-    let blank = FileRecord {
-        name: [0xee; 14],
-        inode: 7777,
-        size: 7777,
-    };
-    let mut records = [blank; 300];
-    let room = room.min(300);
-    let outcome = number(list(store, &mut records[0..room]));
-    let behind = if outcome < 300 { outcome } else { 0 };
-    if records[behind].inode == 7777 && records[behind].size == 7777 {
-        outcome
-    } else {
-        SPOILT
+const BLANK: FileRecord = FileRecord {
+    name: [0xee; 14],
+    inode: 7777,
+    size: 7777,
+};
+
+// How many files are listed; the records behind them stay as they were brought.
+fn list_into<S: Store>(alloc: Global, store: &S, room: usize) -> Result<Answer, Failure> {
+    let mut records = vec![in alloc; BLANK; room]?;
+    let answer = list(store, records.as_mut_slice());
+    let mut behind = records.iter().skip(answer.unwrap_or(0));
+    if behind.any(|record| record.inode != BLANK.inode || record.size != BLANK.size) {
+        return Err(Failure::Spoilt);
     }
+    Ok(Answer::Count(answer?))
 }
 
 // A byte of a block as the store has it.
-fn byte<S: Store>(store: &S, block: usize, at: usize) -> usize {
+fn byte<S: Store>(store: &S, block: usize, at: usize) -> Result<Answer, Failure> {
     let mut buffer = [0; 512];
-    match store.fetch(block, &mut buffer) {
-        Ok(()) => buffer[at % 512] as usize,
-        Err(fault) => refused(fault),
-    }
+    store.fetch(block, &mut buffer)?;
+    Ok(Answer::Holds(buffer[at % 512]))
 }
 
-pub fn perform<S: Store>(store: &mut S, step: Step) -> usize {
-    match step {
-        Step::Format(isize) => bare(format(store, isize)),
-        Step::Check => check_all(store),
-        Step::Create(name) => bare(create(store, name.as_bytes())),
-        Step::Write(name, len, seed) => write_seeded(store, name, len, seed),
-        Step::Read(name, room, seed) => read_seeded(store, name, room, seed),
-        Step::Into(name, room) => read_seeded(store, name, room, 0),
-        Step::Remove(name) => bare(remove(store, name.as_bytes())),
-        Step::List(room) => list_into(store, room),
-        Step::Byte(block, at) => byte(store, block, at),
+impl Step {
+    pub fn on<S: Store>(self, alloc: Global, store: &mut S) -> Result<Answer, Failure> {
+        match self {
+            Step::Format(isize) => done(format(store, isize)),
+            Step::Check => check_all(store),
+            Step::Create(name) => done(create(store, name.as_bytes())),
+            Step::Write(name, len, seed) => write_seeded(alloc, store, name, len, seed),
+            Step::Read(name, room, seed) => read_seeded(alloc, store, name, room, seed),
+            Step::Into(name, room) => read_seeded(alloc, store, name, room, 0),
+            Step::Remove(name) => done(remove(store, name.as_bytes())),
+            Step::List(room) => list_into(alloc, store, room),
+            Step::Byte(block, at) => byte(store, block, at),
+        }
     }
 }

@@ -1,9 +1,7 @@
 -- The lemmas of the crate, by topic.
+pub mod Chains
 pub mod Entries
 pub mod Keeping
 pub mod Remainders
 pub mod Standing
 pub mod Sums
-pub mod Tables
-pub mod Walks
-pub mod WorkedCases

@@ -14,8 +14,8 @@ module _ {F : Type 0} (f : Field F) where
   -- the product with a unit vector is the entry
   pub dot-unit : (k i : ℕ) (u : ℕ → F) → i < k → dot f k u (unit f i) ≡ u i
   dot-unit k i u lt =
-      sum-single f k i (λ p. f.mul (u p) (unit f i p)) lt
-      (λ p below other. ap (f.mul (u p)) (cond-false (eqb p i) f.one f.zero (ne_eqb p i other)) ∙ mul-zero f (u p)) ∙
+      sum-single f k i _ lt
+      (λ p below other. ap (f.mul (u p)) (cond-false _ f.one f.zero (ne_eqb p i other)) ∙ mul-zero f (u p)) ∙
       ap (f.mul (u i)) (cond-true (eqb i i) f.one f.zero (eq-eqb i i refl)) ∙ f.mul-one (u i)
 
   -- a unit vector's entries sum to 1
@@ -49,19 +49,19 @@ module _ {F : Type 0} (f : Field F) where
       where
         entries : sum f k v ≡ f.zero
         entries =
-            sum_same f k v (λ p. f.mul (v p) (sum f n (λ j. f.mul f.one (us j p))))
-            (λ p lt. sym (f.mul-one (v p)) ∙ ap (f.mul (v p)) (sym (closed p lt) ∙ sum_same f n (λ j. us j p) (λ j. f.mul f.one (us j p)) (λ j below. sym (one-mul f (us j p))))) ∙
-            dot-sum f k n v (λ j. f.one) us ∙
-            sum-none f n (λ j. f.mul f.one (dot f k v (us j))) (λ j below. ap (f.mul f.one) (dot-comm f k v (us j) ∙ fits.others j below) ∙ mul-zero f f.one)
+            sum_same f k v _
+            (λ p lt. sym (f.mul-one (v p)) ∙ ap (f.mul (v p)) (sym (closed p lt) ∙ sum_same f n _ _ (λ j below. sym (one-mul f (us j p))))) ∙
+            dot-sum f k n v _ us ∙
+            sum-none f n _ (λ j below. ap (f.mul f.one) (dot-comm f k v (us j) ∙ fits.others j below) ∙ mul-zero f f.one)
 
     module _ (orthonormal : Orthonormal-vectors f k n us) where
       -- the remainder is orthogonal to every one of the vectors
       pub left_over_orthogonal : (v : ℕ → F) (m : ℕ) → m < n → dot f k (us m) (left_over f k n us v) ≡ f.zero
       left_over_orthogonal v m lt =
-          dot-add f k (us m) v (λ p. sum f n (λ j. f.mul (dot f k (us j) v) (us j p))) ∙
+          dot-add f k (us m) v _ ∙
           ap (f.add (dot f k (us m) v))
-          (dot-sum f k n (us m) (λ j. dot f k (us j) v) us ∙
-          sum-single f n m (λ j. f.mul (dot f k (us j) v) (dot f k (us m) (us j))) lt
+          (dot-sum f k n (us m) _ us ∙
+          sum-single f n m _ lt
           (λ j below other. ap (f.mul (dot f k (us j) v)) (orthonormal.others m j lt below (λ e. other (sym e))) ∙ mul-zero f (dot f k (us j) v)) ∙
           ap (f.mul (dot f k (us m) v)) (orthonormal.own m lt) ∙ f.mul-one (dot f k (us m) v)) ∙
           f.add_self (dot f k (us m) v)
@@ -73,10 +73,10 @@ module _ {F : Type 0} (f : Field F) where
       -- the remainder of unit vector i has as sum of its entries 1 plus entry i of the sum of the vectors
       sum-left_over : (i : ℕ) → i < k → sum f k (left_over f k n us (unit f i)) ≡ f.add f.one (sum f n (λ j. us j i))
       sum-left_over i lt =
-          sum-add f k (unit f i) (λ p. sum f n (λ j. f.mul (dot f k (us j) (unit f i)) (us j p))) ∙
+          sum-add f k (unit f i) _ ∙
           ap₂ f.add (sum-unit k i lt)
-          (sum-swap f k n (λ j p. f.mul (dot f k (us j) (unit f i)) (us j p)) ∙
-          sum_same f n (λ j. sum f k (λ p. f.mul (dot f k (us j) (unit f i)) (us j p))) (λ j. us j i)
+          (sum-swap f k n _ ∙
+          sum_same f n _ _
           (λ j below.
           sum-mul f k (dot f k (us j) (unit f i)) (us j) ∙
           ap₂ f.mul (dot-unit k i (us j) lt) (one-from_square f (sum f k (us j)) (sym (dot-self k (us j)) ∙ orthonormal.own j below)) ∙
@@ -90,20 +90,20 @@ module _ {F : Type 0} (f : Field F) where
           let unity : f.mul (f.inv c) c ≡ f.one = f.mul_comm (f.inv c) c ∙ f.mul-inv c some in
           record {
             own =
-                dot-self k (λ p. f.mul (f.inv c) (r p)) ∙ ap (λ x. f.mul x x) (sum-mul f k (f.inv c) r ∙ unity) ∙ f.mul-one f.one;
+                dot-self k _ ∙ ap (λ x. f.mul x x) (sum-mul f k (f.inv c) r ∙ unity) ∙ f.mul-one f.one;
             others = λ m lt. dot-mul f k (f.inv c) (us m) r ∙ ap (f.mul (f.inv c)) (left_over_orthogonal v m lt) ∙ mul-zero f (f.inv c);
           }
 
       -- where the sum of the vectors is not 1, the remainder of that unit vector has a sum other than 0
       pub unit-left_over : (i : ℕ) → i < k → (sum f n (λ j. us j i) ≡ f.one → ⊥) → sum f k (left_over f k n us (unit f i)) ≡ f.zero → ⊥
-      unit-left_over i lt differs e = differs (same_from-sum f f.one (sum f n (λ j. us j i)) (sym (sum-left_over i lt) ∙ e))
+      unit-left_over i lt differs e = differs (same_from-sum f f.one _ (sym (sum-left_over i lt) ∙ e))
 
       -- the vectors sum to ones, or a further vector is orthonormal to all of them
       pub closed_or_fits : Closed f k n us ⊎ ((v : ℕ → F) × Fits-vectors f k n us v)
       closed_or_fits =
           ⊎_elim inl
           (λ place. inr (_, divided_fits (unit f place.0) (unit-left_over place.0 place.1 place.2)))
-          (ones_or-place k (λ p. sum f n (λ j. us j p)))
+          (ones_or-place k _)
 
 -- all of it, over any such field
 pub key_algebra : {F : Type 0} (f : Field F) → KeyAlgebra f

@@ -1,5 +1,6 @@
 -- Bits as a field, and a number as the vector of its bits.
 use Rattle.std.specs.Prelude.{◌≡◌, ℕ, zero, suc, ◌/◌, ◌%◌, Bool, true, false, not, ◌&&◌, ◌⊎◌, ◌==◌, ◌≢◌, bit_xor, refl}
+use Rattle.std.proofs.Math.Bool.{and_comm, and_assoc, and-true}
 use Rattle.std.specs.Int.Bits.{xor_self, xor_zero_r}
 use Rattle.std.proofs.Common.{inl, inr, sym}
 use Rattle.std.proofs.lemmas.Bool.{true≢false}
@@ -38,20 +39,6 @@ pub either_self : (x : Bool) → either x x ≡ false
 either_self true = refl
 either_self false = refl
 
-pub both_comm : (x y : Bool) → (x && y) ≡ (y && x)
-both_comm true true = refl
-both_comm true false = refl
-both_comm false true = refl
-both_comm false false = refl
-
-pub both_assoc : (x y z : Bool) → ((x && y) && z) ≡ (x && (y && z))
-both_assoc true y z = refl
-both_assoc false y z = refl
-
-pub both_true : (x : Bool) → (x && true) ≡ x
-both_true true = refl
-both_true false = refl
-
 pub both_either : (x y z : Bool) → (x && either y z) ≡ either (x && y) (x && z)
 both_either true y z = refl
 both_either false y z = refl
@@ -89,9 +76,9 @@ bits = record {
   add_assoc = either_assoc;
   add-zero = either_false;
   add_self = either_self;
-  mul_comm = both_comm;
-  mul_assoc = both_assoc;
-  mul-one = both_true;
+  mul_comm = and_comm;
+  mul_assoc = and_assoc;
+  mul-one = and-true;
   mul-add = both_either;
   inv-zero = refl;
   mul-inv = own_inverse;

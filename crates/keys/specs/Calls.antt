@@ -1,5 +1,6 @@
 -- What the calls on standing keys answer and leave: k covers, the keys in the order of their levels, the argument.
-use Rattle.std.specs.Prelude.{◌≡◌, ℕ, ◌^◌, ◌<◌, Bool, true, false, cond, ◌&&◌, List, [], ◌∷◌, ◌++◌, length, take, drop, Some, None, Ok, Err, Decides, Option, Result, ◌==◌, nat_le, nat_lt, slice_index}
+use Rattle.std.specs.Prelude.{◌≡◌, ℕ, ◌^◌, ◌<◌, Bool, true, false, if◌then◌else◌, ◌&&◌, List, [], ◌∷◌, ◌++◌, length, take, drop, Some, None, Ok, Err, Decides, Option, Result, ◌==◌, nat_le, nat_lt, slice_index}
+use Rattle.std.specs.Result.{result_and}
 use Rattle.faults.specs.Faults.{bare}
 use Rattle.faults.specs.declared.Fault.{Fault}
 use Rattle.faults.specs.declared.Question.TheVariants.{CoversWithinLimits, RoomForLevel, KeySumOpen, CandidateBelowLimit, RemainderOdd, KeyOrthonormal, EnoughLevels, EnoughPlaces}
@@ -11,19 +12,14 @@ max_levels = 16
 
 -- Question 5 of the number of covers: is it 2 to 32?
 abbrev pub covers_answer : ℕ → Result (Unit {0}) Fault
-covers_answer k = cond (nat_le 2 k && nat_le k 32) (Ok tt) (Err (bare CoversWithinLimits))
+covers_answer k = if nat_le 2 k && nat_le k 32 then Ok tt else Err (bare CoversWithinLimits)
 
 -- Questions 8, 9 and 10 of a number v that is brought: is there room for a level, may a key still fit, is v below 2 ^ k?
 abbrev pub admitted : (k : ℕ) → List ℕ → ℕ → Result (Unit {0}) Fault
 admitted k keys v =
-    cond (nat_lt (length keys) max_levels)
-    (cond (full k keys) (Err (bare KeySumOpen)) (cond (nat_lt v (2 ^ k)) (Ok tt) (Err (bare CandidateBelowLimit))))
-    (Err (bare RoomForLevel))
-
--- The first refusal, or what follows.
-abbrev pub before : Result (Unit {0}) Fault → Result ℕ Fault → Result ℕ Fault
-before (Ok u) next = next
-before (Err f) next = Err f
+    if nat_lt (length keys) max_levels then
+    (if full k keys then Err (bare KeySumOpen) else (if nat_lt v (2 ^ k) then Ok tt else Err (bare CandidateBelowLimit)))
+    else Err (bare RoomForLevel)
 
 -- The keys after a call that appends v where it is accepted.
 abbrev pub extended : List ℕ → ℕ → Result ℕ Fault → List ℕ
@@ -32,11 +28,11 @@ extended keys v (Err f) = keys
 
 -- Adding asks last, by question 11, whether the remainder is odd, and answers the new level's number.
 abbrev pub add_answer : (k : ℕ) → List ℕ → ℕ → Result ℕ Fault
-add_answer k keys v = before (admitted k keys v) (cond (parity (remainder keys v) == 1) (Ok (length keys)) (Err (bare RemainderOdd)))
+add_answer k keys v = result_and (admitted k keys v) (if parity (remainder keys v) == 1 then Ok (length keys) else Err (bare RemainderOdd))
 
 -- Taking asks last, by question 12, whether the key is orthonormal to the standing ones.
 abbrev pub take_answer : (k : ℕ) → List ℕ → ℕ → Result ℕ Fault
-take_answer k keys v = before (admitted k keys v) (cond (fits keys v) (Ok (length keys)) (Err (bare KeyOrthonormal)))
+take_answer k keys v = result_and (admitted k keys v) (if fits keys v then Ok (length keys) else Err (bare KeyOrthonormal))
 
 -- Adding appends the remainder of the candidate.
 abbrev pub add_call : (k : ℕ) → List ℕ → ℕ → Result ℕ Fault × List ℕ
@@ -49,7 +45,7 @@ take_call k keys v = (take_answer k keys v, extended keys v (take_answer k keys 
 -- Disclosing d keys into so many places asks questions 13 and 14: do d levels stand, are there d places?
 abbrev pub disclose_answer : (d : ℕ) → List ℕ → (places : ℕ) → Result ℕ Fault
 disclose_answer d keys places =
-    cond (nat_le d (length keys)) (cond (nat_le d places) (Ok d) (Err (bare EnoughPlaces))) (Err (bare EnoughLevels))
+    if nat_le d (length keys) then (if nat_le d places then Ok d else Err (bare EnoughPlaces)) else Err (bare EnoughLevels)
 
 -- The list brought, once the first d keys stand in its first places.
 abbrev pub disclosed : List ℕ → List ℕ → Result ℕ Fault → List ℕ
@@ -61,7 +57,7 @@ disclose_call d keys list = (disclose_answer d keys (length list), disclosed key
 
 -- The key of a level that stands.
 abbrev pub key_of : List ℕ → ℕ → Option ℕ
-key_of keys level = cond (nat_lt level (length keys)) (Some (slice_index keys level)) None
+key_of keys level = if nat_lt level (length keys) then Some (slice_index keys level) else None
 
 -- A call, answered by r, that leads from the standing keys to others, which are orthonormal again.
 pub record Leads (call : Result ℕ Fault × List ℕ) (after : List ℕ) (r : Result ℕ Fault) : Type 0 where

@@ -1,5 +1,5 @@
 -- Keys as numbers: their product, the remainder of a candidate, their sum, and when they are orthonormal.
-use Rattle.std.specs.Prelude.{◌≡◌, ℕ, ◌-◌, ◌%◌, ◌^◌, ◌<◌, ◌≤◌, Bool, true, cond, ◌&&◌, List, [], ◌∷◌, length, ◌==◌, ◌≢◌, bit_and, bit_xor, count_ones, slice_index}
+use Rattle.std.specs.Prelude.{◌≡◌, ℕ, ◌-◌, ◌%◌, ◌^◌, ◌<◌, ◌≤◌, Bool, true, if◌then◌else◌, ◌&&◌, List, [], ◌∷◌, length, ◌==◌, ◌≢◌, bit_and, bit_xor, count_ones, slice_index}
 
 -- 1 for an odd number of ones, else 0.
 abbrev pub parity : ℕ → ℕ
@@ -12,7 +12,7 @@ product a b = parity (bit_and a b)
 -- What r becomes when each key whose product with v is 1 is added to it.
 abbrev pub reduced : (v r : ℕ) → List ℕ → ℕ
 reduced v r [] = r
-reduced v r (u ∷ us) = reduced v (cond (product u v == 1) (bit_xor r u) r) us
+reduced v r (u ∷ us) = reduced v (if product u v == 1 then bit_xor r u else r) us
 
 -- The remainder of a candidate v.
 abbrev pub remainder : List ℕ → ℕ → ℕ

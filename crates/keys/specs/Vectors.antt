@@ -1,5 +1,5 @@
 -- Vectors over a field: an entry for each place below k, sums, products and what a list of orthonormal vectors is.
-use Rattle.std.specs.Prelude.{◌≡◌, ℕ, zero, suc, ◌<◌, cond, ◌==◌, ◌≢◌}
+use Rattle.std.specs.Prelude.{◌≡◌, ℕ, zero, suc, ◌<◌, if◌then◌else◌, ◌==◌, ◌≢◌}
 use Rattle.keys.specs.Field.{Field}
 
 module _ {F : Type 0} (f : Field F) where
@@ -14,7 +14,7 @@ module _ {F : Type 0} (f : Field F) where
 
   -- The vector that is 1 at one place.
   abbrev pub unit : ℕ → ℕ → F
-  unit i p = cond (p == i) f.one f.zero
+  unit i p = if p == i then f.one else f.zero
 
   -- Of n vectors us: each has product 1 with itself and 0 with every other.
   pub record Orthonormal-vectors (k n : ℕ) (us : ℕ → ℕ → F) : Type 0 where

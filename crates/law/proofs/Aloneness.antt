@@ -18,16 +18,16 @@ use Rattle.law.proofs.Simulating.{simulated}
 module _ {C : Type 0} (j : ℕ) where
   -- what is sent to level j goes there
   sent-goes : (o : Option (Goes C)) (a : Asked C) → only j o ≡ Some a → o ≡ Some (record { level = j; asks = a })
-  sent-goes None a e = let z : ◌≡◌ {A = ℕ} 0 1 = cc in absurd (omega arith)
+  sent-goes None a e = cc
   sent-goes (Some g) a e =
       ⊎_elim
       (λ here. let same : g.asks ≡ a = cc (cond-true (eqb g.level j) (Some g.asks) None here) in ap₂ (λ l b. Some (record { level = l; asks = b })) (eqb-true g.level j here) same)
-      (λ other. let z : ◌≡◌ {A = ℕ} 0 1 = cc (cond-false (eqb g.level j) (Some g.asks) None other) in absurd (omega arith))
+      (λ other. absurd (cc (cond-false (eqb g.level j) (Some g.asks) None other)))
       (cases_Bool (eqb g.level j))
 
   -- what is not sent to it goes elsewhere
   unsent-goes : (g : Goes C) → only j (Some g) ≡ None → g.level ≡ j → ⊥
-  unsent-goes g e here = let z : ◌≡◌ {A = ℕ} 0 1 = cc (cond-true (eqb g.level j) (Some g.asks) None (eq-eqb g.level j here)) in omega arith
+  unsent-goes g e here = cc (cond-true (eqb g.level j) (Some g.asks) None (eq-eqb g.level j here))
 
 module _ {C V M : Type 0} (s : Service C V M) (keeps : Keeps s) (covers : Covers) (keys : List ℕ) where
   -- A sound wallet from which the calls that are left lead to these covers and keys.

@@ -175,7 +175,7 @@ new-sound w new = record {
   };
   laid = λ some. absurd (omega (arith, none));
   room = subst (λ (c : Covers). c.count * c.blocks ≤ length w.blocks) (sym new.covers) (omega arith);
-  chosen = λ level e. let z : ◌≡◌ {A = ℕ} 0 1 = cc new.chosen in absurd (omega arith);
+  chosen = λ level e. cc new.chosen;
   paired = new.paired;
   whole = new.whole;
 }

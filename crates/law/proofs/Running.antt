@@ -1,5 +1,7 @@
 -- A run put together call by call.
-use Rattle.std.proofs.Common.{◌≡◌, List, [], ◌∷◌, ◌++◌, refl, ap, ◌∙◌, subst}
+use Rattle.std.proofs.lemmas.Grind.{common_steps}
+use Rattle.std.proofs.Common.{arith}
+use Rattle.std.proofs.Common.{◌≡◌, List, [], ◌∷◌, ◌++◌, refl, ap, subst}
 use Rattle.wallet.specs.Wallets.{State}
 use Rattle.law.specs.Alone.{Ran}
 use Rattle.law.specs.Runs.{Call, Reply, carried, step, SoundWallet}
@@ -18,10 +20,7 @@ module _ {C V M : Type 0} (s : Service C V M) where
   -- one call more
   pub ran_more : (w : State) (calls : List (Call C)) (replies : List (Reply V M)) (w' : State) → Ran s w calls replies w'
       → (c : Call C) (r : Reply V M) (w'' : State) → step s c w' ≡ (r, w'') → Ran s w (calls ++ c ∷ []) (replies ++ r ∷ []) w''
-  ran_more w calls replies w' ran c r w'' did =
-      carried-more (step s) calls c w ∙
-      ap (λ (out : List (Reply V M) × State). (out.0 ++ (step s c out.1).0 ∷ [], (step s c out.1).1)) ran ∙
-      ap (λ (out : Reply V M × State). (replies ++ out.0 ∷ [], out.1)) did
+  ran_more w calls replies w' ran c r w'' did = grind (arith, common_steps, carried-more)
 
   -- a run from a sound wallet leaves one
   pub ran_sound : (w : State) (calls : List (Call C)) (replies : List (Reply V M)) (w' : State) → SoundWallet w → Ran s w calls replies w' → SoundWallet w'

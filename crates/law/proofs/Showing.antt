@@ -1,15 +1,16 @@
 -- What levels show of a store that holds all their covers.
-use Rattle.std.proofs.Common.{◌≡◌, ℕ, zero, suc, ◌+◌, ◌*◌, ◌^◌, ◌<◌, ◌≤◌, Bool, cond, not, ◌&&◌, eqb, List, length, get_or, take, is_ok, sym, refl, ap, ◌∙◌, arith}
+use Rattle.std.proofs.lemmas.Grind.{common_steps}
+use Rattle.std.proofs.Common.{◌≡◌, ℕ, zero, suc, ◌+◌, ◌*◌, ◌^◌, ◌<◌, ◌≤◌, Bool, cond, not, ◌&&◌, eqb, List, length, take, sym, refl, ap, ◌∙◌, arith}
 use lib.Bits.{bit_xor, xor_assoc, xor_self}
 use Rattle.keys.specs.Bits.{bits, entry, taken, taken_xor}
 use Rattle.keys.specs.Keys.{product}
 use Rattle.keys.proofs.Entries.{product-dot}
 use Rattle.std.proofs.lemmas.List.{get_or-take}
 use Rattle.std.proofs.lemmas.Bool.{eq-eqb}
-use Rattle.store.specs.Stores.{Block, Mark, live, dead, judged, asked}
+use Rattle.store.specs.Stores.{Block, Mark, dead, asked}
 use Rattle.store.proofs.Asking.{asked-within}
 use Rattle.wallet.specs.Each.{byte_at, length-each}
-use Rattle.wallet.specs.Levels.{changed, shown_byte, shown, refilled, in_key, lowest_dead, cover_fine, level_mark, level_marks}
+use Rattle.wallet.specs.Levels.{changed, shown_byte, shown, refilled, in_key, lowest_dead, level_mark, level_marks}
 use Rattle.wallet.specs.Places.{Covers, place}
 use Rattle.wallet.proofs.Changing.{Whole, Agree, Reached, along, changed-same, changed-changed, changed-none, length-changed, whole-changed, length-shown, get_or-shown, byte_at-shown, shown-refilled, shown-spared}
 use Rattle.wallet.proofs.PlaceLaws.{place-covered, below_all}
@@ -92,13 +93,8 @@ length-level_marks c level u ms = length-each c.blocks (level_mark bits c level 
 -- the marks of a level come from those of the covers' blocks
 module _ (c : Covers) (ms ms' : List Mark) (room : c.count * c.blocks ≤ length ms) (room' : c.count * c.blocks ≤ length ms') (same : take (c.count * c.blocks) ms ≡ take (c.count * c.blocks) ms') where
   asked-same : (n : ℕ) → n < c.count * c.blocks → asked ms n ≡ asked ms' n
-  asked-same n lt =
-      asked-within ms n (omega arith) ∙
-      ap (judged n) (sym (get_or-take (c.count * c.blocks) ms n live lt) ∙ ap (λ xs. get_or xs n live) same ∙ get_or-take (c.count * c.blocks) ms' n live lt) ∙
-      sym (asked-within ms' n (omega arith))
+  asked-same n lt = grind (arith, common_steps, asked-within, get_or-take, same)
 
   pub level_marks-same : (level : ℕ) (u : ℕ → Bool) → level_marks bits c level u ms ≡ level_marks bits c level u ms'
   unfolding level_marks level_mark
-  level_marks-same level u =
-      each_same c.blocks (level_mark bits c level u ms) (level_mark bits c level u ms') live
-      (λ b lb. lowest-same level u (cover_fine c ms b) (cover_fine c ms' b) c.count 0 (λ i from li. ap is_ok (asked-same (place c i b) (within_covers c i b (omega arith) lb))))
+  level_marks-same level u = grind (arith, common_steps, asked-same, each_same, lowest-same, within_covers)

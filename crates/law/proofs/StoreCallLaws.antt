@@ -1,4 +1,5 @@
 -- The store calls keep blocks, and the wallet's level fetch and put are cases of a call by level.
+use Rattle.std.proofs.lemmas.Grind.{common_steps}
 use Rattle.std.proofs.Common.{◌≡◌, ℕ, ◌<◌, Bool, true, false, cond, List, [], length, get_or, set, is_ok, Some, None, Ok, Err, Option, Result, sym, refl, ap, ◌∙◌, ap₂, ⊎_elim, arith}
 use Rattle.keys.specs.Bits.{entry}
 use Rattle.std.proofs.lemmas.List.{length-set, get_or-set_same, get_or-set_other}
@@ -110,15 +111,10 @@ store_same (Some level) w whole = ap (λ bs. with_blocks bs w) (refilled-shown w
 module _ (w : State) (n : ℕ) where
   pub store_fetch-step : (before after : Block) (r : Result (Unit {0}) Fault) → Whole w.blocks → Fetched (store_blocks w.chosen w) (store_marks w.chosen w) n before after r → step store_calls (by_store (fetch n before)) w ≡ (block_reply r after, w)
   unfolding step
-  store_fetch-step before after r whole fetched =
-      ap₂ (λ x y. (x, y))
-      (ap (λ q. block_reply q (cond (is_ok q) (get_or (store_blocks w.chosen w) n []) before)) (sym fetched.answer) ∙ ap (block_reply r) (sym fetched.buffer))
-      (store_same w.chosen w whole)
+  store_fetch-step before after r whole fetched = grind (arith, common_steps, store_same)
 
   pub store_put-step : (contents : Block) (w' : State) (r : Result (Unit {0}) Fault) → length contents ≡ 512 → r ≡ asked (store_marks w.chosen w) n
       → w' ≡ store_filled w.chosen w (cond (is_ok r) (set (store_blocks w.chosen w) n contents) (store_blocks w.chosen w))
       → step store_calls (by_store (put n contents)) w ≡ (block_reply r contents, w')
   unfolding step
-  store_put-step contents w' r size answer after =
-      ap₂ (λ q bytes. (block_reply q contents, store_filled w.chosen w (cond (is_ok q) (set (store_blocks w.chosen w) n bytes) (store_blocks w.chosen w)))) (sym answer) (sym (bytes_of_whole contents size)) ∙
-      ap (λ x. (block_reply r contents, x)) (sym after)
+  store_put-step contents w' r size answer after = grind (arith, common_steps, bytes_of_whole)

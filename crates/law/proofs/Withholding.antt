@@ -1,5 +1,6 @@
 -- The law of withheld levels: what the shown ones answer can be had from them alone.
-use Rattle.std.proofs.Common.{◌≡◌, ℕ, ◌*◌, ◌^◌, ◌<◌, ◌≤◌, Bool, true, false, cond, ◌&&◌, eqb, ltb, leb, List, [], ◌∷◌, ◌++◌, length, get_or, take, drop, is_ok, Some, None, Ok, Err, Option, Result, sym, refl, ap, ◌∙◌, subst, ap₂, ⊎_elim, arith, length-take}
+use Rattle.std.proofs.lemmas.Grind.{common_steps}
+use Rattle.std.proofs.Common.{◌≡◌, ℕ, ◌*◌, ◌^◌, ◌<◌, ◌≤◌, Bool, true, false, cond, eqb, ltb, leb, List, [], ◌∷◌, ◌++◌, length, get_or, take, drop, is_ok, Some, None, Ok, Err, Option, Result, sym, refl, ap, ◌∙◌, subst, ap₂, ⊎_elim, arith, length-take}
 use Rattle.keys.specs.Bits.{bits, entry}
 use Rattle.keys.specs.Calls.{disclose_answer, disclose_call, disclosed as disclosed_in}
 use Rattle.keys.specs.Keys.{product}
@@ -40,27 +41,20 @@ module _ (keys more list : List ℕ) (longer : Longer keys more) (d : ℕ) (few 
   list_longer false = refl
 
   disclosed_longer : {V M : Type 0} → ◌≡◌ {A = Reply V M} (disclosed (disclose_call d more list).0 (disclose_call d more list).1) (disclosed (disclose_call d keys list).0 (disclose_call d keys list).1)
-  disclosed_longer =
-      ap (λ r. disclosed r (disclosed_in more list r)) (stood more (omega (arith, longer.many))) ∙
-      ap (disclosed (placed (leb d (length list)))) (list_longer (leb d (length list))) ∙
-      ap (λ r. disclosed r (disclosed_in keys list r)) (sym (stood keys few))
+  disclosed_longer = grind (arith, common_steps, list_longer, stood, longer.many)
 
 module _ {C : Type 0} (d : ℕ) where
   -- a call that is open by the level it goes to
   below-goes : (o : Option (Goes C)) (x : Open C) → below d o ≡ Some x → (g : Goes C) × (o ≡ Some g) × (g.level < d) × (asks_level g.level g.asks ≡ x)
-  below-goes None x e = let z : ◌≡◌ {A = ℕ} 0 1 = cc in absurd (omega arith)
+  below-goes None x e = cc
   below-goes (Some g) x e =
       ⊎_elim
       (λ low. let same : asks_level g.level g.asks ≡ x = cc (cond-true (ltb g.level d) (Some (asks_level g.level g.asks)) None low) in (g, refl, ltb-true g.level d low, same))
-      (λ high. let z : ◌≡◌ {A = ℕ} 0 1 = cc (cond-false (ltb g.level d) (Some (asks_level g.level g.asks)) None high) in absurd (omega arith))
+      (λ high. absurd (cc (cond-false (ltb g.level d) (Some (asks_level g.level g.asks)) None high)))
       (cases_Bool (ltb g.level d))
 
   above-goes : (g : Goes C) → below d (Some g) ≡ None → d ≤ g.level
-  above-goes g e =
-      ⊎_elim
-      (λ low. let z : ◌≡◌ {A = ℕ} 0 1 = cc (cond-true (ltb g.level d) (Some (asks_level g.level g.asks)) None low) in absurd (omega arith))
-      (λ high. ltb-false g.level d high)
-      (cases_Bool (ltb g.level d))
+  above-goes g e = grind (arith, common_steps, ltb-false)
 
   -- a call that is not open goes to no level below d
   unopen-goes : (c : Call C) (w : State) → opening d c w ≡ None → below d (goes c w) ≡ None
@@ -165,13 +159,13 @@ module _ {C V M : Type 0} (s : Service C V M) (keeps : Keeps s) (covers : Covers
   acts_disclosing w held h d list few = (disclosed_longer keys w.keys list h.shows.longer d few, h)
 
   acts : (c : Call C) (cs : List (Call C)) (w : State) (held : ℕ → List Block) (x : Open C) → opening (length keys) c w ≡ Some x → Held covers keys ms w held → Follows c w held x
-  acts (lay_out k n) cs w held x e h = let z : ◌≡◌ {A = ℕ} 0 1 = cc in absurd (omega arith)
-  acts (add_key v) cs w held x e h = let z : ◌≡◌ {A = ℕ} 0 1 = cc in absurd (omega arith)
-  acts (take_key v) cs w held x e h = let z : ◌≡◌ {A = ℕ} 0 1 = cc in absurd (omega arith)
+  acts (lay_out k n) cs w held x e h = cc
+  acts (add_key v) cs w held x e h = cc
+  acts (take_key v) cs w held x e h = cc
   acts (disclose d list) cs w held x e h =
       ⊎_elim
       (λ few. let same : disclosing d list ≡ x = cc (cond-true {A = Option (Open C)} (leb d (length keys)) (Some (disclosing d list)) None few) in subst (Follows (disclose d list) w held) same (acts_disclosing w held h d list (leb-true d (length keys) few)))
-      (λ many. let z : ◌≡◌ {A = ℕ} 0 1 = cc (cond-false {A = Option (Open C)} (leb d (length keys)) (Some (disclosing d list)) None many) in absurd (omega arith))
+      (λ many. absurd (cc (cond-false {A = Option (Open C)} (leb d (length keys)) (Some (disclosing d list)) None many)))
       (cases_Bool (leb d (length keys)))
   acts (choose level) cs w held x e h = acts-below (choose level) w held h x e
   acts (by_level level c) cs w held x e h = acts-below (by_level level c) w held h x e
@@ -234,10 +228,7 @@ module _ {C V M : Type 0} (s : Service C V M) where
     after_laying = cond-true (is_ok (lay_out_answer w k n)) (with_covers laid w) w (ap is_ok b.laid)
 
     some_covers : 0 < k
-    some_covers =
-        let limits = (laid_out w (new-sound w b.new) k n (ap is_ok b.laid)).2 in
-        let low = (and_parts (leb 2 k) (leb k 32) (and_parts (leb 2 k && leb k 32) (leb 4 n && leb n 100) limits).0).0 in
-        omega (arith, leb-true 2 k low)
+    some_covers = grind (arith, common_steps, and_parts, laid_out, leb-true)
 
     whole_run : Leads w begun
     whole_run = run-leads s (lay_out k n ∷ first) w (new-sound w b.new)

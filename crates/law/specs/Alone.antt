@@ -1,5 +1,5 @@
 -- Each level answers as if it were alone, and a level that is never opened keeps what it shows.
-use Rattle.std.specs.Prelude.{◌≡◌, ℕ, ◌^◌, ◌<◌, cond, List, [], ◌∷◌, length, Some, None, Ok, Option, ◌==◌}
+use Rattle.std.specs.Prelude.{◌≡◌, ℕ, ◌^◌, ◌<◌, if◌then◌else◌, List, [], ◌∷◌, length, Some, None, Ok, Option, ◌==◌}
 use Rattle.keys.specs.Bits.{bits, entry}
 use Rattle.keys.specs.Keys.{Fits}
 use Rattle.store.specs.Stores.{Block, Mark}
@@ -25,7 +25,7 @@ to_chosen c None = None
 to_chosen c (Some level) = Some (record { level = level; asks = unnamed c })
 
 abbrev pub to_named : {C : Type 0} → State → ℕ → Asked C → Option (Goes C)
-to_named w level a = cond (stands w level) (Some (record { level = level; asks = a })) None
+to_named w level a = if stands w level then Some (record { level = level; asks = a }) else None
 
 -- The level that a call goes to: the one it names, once that stands, or for a store call the chosen one.
 abbrev pub goes : {C : Type 0} → Call C → State → Option (Goes C)
@@ -40,7 +40,7 @@ goes (by_store c) w = to_chosen c w.chosen
 -- What is asked of level j, if the call goes there.
 abbrev pub only : {C : Type 0} → ℕ → Option (Goes C) → Option (Asked C)
 only j None = None
-only j (Some g) = cond (g.level == j) (Some g.asks) None
+only j (Some g) = if g.level == j then Some g.asks else None
 
 abbrev pub sent_to : {C : Type 0} → ℕ → Call C → State → Option (Asked C)
 sent_to j c w = only j (goes c w)

@@ -1,5 +1,5 @@
 -- What a wallet can be asked, what each call does, and what a run of calls is.
-use Rattle.std.specs.Prelude.{◌≡◌, ℕ, ◌*◌, ◌<◌, ◌≤◌, cond, List, [], ◌∷◌, length, Some, None, Option, Result}
+use Rattle.std.specs.Prelude.{◌≡◌, ℕ, ◌*◌, ◌<◌, ◌≤◌, if◌then◌else◌, List, [], ◌∷◌, length, Some, None, Option, Result}
 use Rattle.keys.specs.Calls.{add_call, take_call, disclose_call}
 use Rattle.keys.specs.Keys.{Sound}
 use Rattle.store.specs.Stores.{Block, Mark}
@@ -56,9 +56,8 @@ module _ {C V M : Type 0} (s : Service C V M) where
   -- A call that names a level asks whether it stands, then the level; its faults have the level, which is left chosen.
   abbrev pub level_call : State → (level : ℕ) → C → Answer V M × State
   level_call w level c =
-      cond (stands w level)
-      (stamped level (asking w level c).0, with_chosen level (changed_by w level c))
-      (refused s c (not_standing level), w)
+      if stands w level then (stamped level (asking w level c).0, with_chosen level (changed_by w level c))
+      else (refused s c (not_standing level), w)
 
   -- A store call asks the wallet as a store.
   abbrev pub store_call : Option ℕ → State → C → Answer V M × State

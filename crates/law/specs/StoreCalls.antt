@@ -1,5 +1,5 @@
 -- The store calls as what a store can be asked.
-use Rattle.std.specs.Prelude.{ℕ, Bool, cond, List, [], length, is_ok, Ok, Err, Result, slice_index, slice_index_or, slice_set}
+use Rattle.std.specs.Prelude.{ℕ, Bool, if◌then◌else◌, List, [], length, is_ok, Ok, Err, Result, slice_index, slice_index_or, slice_set}
 use Rattle.store.specs.Stores.{Block, Mark, asked}
 use Rattle.faults.specs.declared.Fault.{Fault}
 use Rattle.wallet.specs.Each.{each}
@@ -41,8 +41,8 @@ answer outcome memory = record { outcome = outcome; memory = memory }
 abbrev pub store_serve : StoreCall → List Block → List Mark → Answer Value Memory × List Block
 store_serve count bs ms = (answer (Ok (number (length bs))) nothing, bs)
 store_serve (live n) bs ms = (answer (Ok (flag (is_ok (asked ms n)))) nothing, bs)
-store_serve (fetch n buffer) bs ms = (answer (succeeds (asked ms n)) (block (cond (is_ok (asked ms n)) (slice_index_or bs n []) buffer)), bs)
-store_serve (put n contents) bs ms = (answer (succeeds (asked ms n)) (block contents), cond (is_ok (asked ms n)) (slice_set bs n (bytes_of contents)) bs)
+store_serve (fetch n buffer) bs ms = (answer (succeeds (asked ms n)) (block (if is_ok (asked ms n) then slice_index_or bs n [] else buffer)), bs)
+store_serve (put n contents) bs ms = (answer (succeeds (asked ms n)) (block contents), if is_ok (asked ms n) then slice_set bs n (bytes_of contents) else bs)
 
 abbrev pub store_calls : Service StoreCall Value Memory
 store_calls = record { serve = store_serve; brought = brought_by }

@@ -1,5 +1,5 @@
 -- The levels that are shown tell nothing of those that are withheld.
-use Rattle.std.specs.Prelude.{◌≡◌, ℕ, ◌*◌, ◌<◌, Bool, true, false, cond, ◌&&◌, List, [], ◌∷◌, length, take, Some, None, Ok, Option, nat_le, nat_lt, slice_index}
+use Rattle.std.specs.Prelude.{◌≡◌, ℕ, ◌*◌, ◌<◌, Bool, true, false, if◌then◌else◌, ◌&&◌, List, [], ◌∷◌, length, take, Some, None, Ok, Option, nat_le, nat_lt, slice_index}
 use Rattle.wallet.specs.Places.{Covers}
 use Rattle.wallet.specs.Wallets.{State, lay_out_answer}
 use Rattle.law.specs.Alone.{Asked, Goes, goes, blocks_under, requests, replies_to, Ran}
@@ -13,14 +13,14 @@ pub data Open (C : Type 0) : Type 0 where
 
 abbrev pub below : {C : Type 0} → ℕ → Option (Goes C) → Option (Open C)
 below d None = None
-below d (Some g) = cond (nat_lt g.level d) (Some (asks_level g.level g.asks)) None
+below d (Some g) = if nat_lt g.level d then Some (asks_level g.level g.asks) else None
 
 -- Of d shown levels the open calls are those that disclose at most d keys and those that go to a level below d.
 abbrev pub opening : {C : Type 0} → ℕ → Call C → State → Option (Open C)
 opening d (lay_out k n) w = None
 opening d (add_key candidate) w = None
 opening d (take_key key) w = None
-opening d (disclose many list) w = cond (nat_le many d) (Some (disclosing many list)) None
+opening d (disclose many list) w = if nat_le many d then Some (disclosing many list) else None
 opening d (choose level) w = below d (goes (choose level) w)
 opening d (by_level level c) w = below d (goes (by_level level c) w)
 opening d (by_store c) w = below d (goes (by_store c) w)

@@ -1,40 +1,43 @@
 -- The name in a name field, found byte by byte.
-use Rattle.std.proofs.Common.{◌≡◌, ℕ, ◌+◌, ◌-◌, ◌<◌, ◌≤◌, true, eqb, List, [], ◌∷◌, ◌++◌, length, get_or, take, drop, replicate, sym, refl, ap, ◌∙◌, ⊎_elim}
-use Rattle.std.proofs.lemmas.List.{append-nil, append_assoc, at_drop_more, at_drop_all, take_more, take-append-drop, length-drop}
-use Rattle.std.proofs.lemmas.Bool.{eq-eqb, ne_eqb, cond-true, cond-false, and_parts, cases_Bool, eqb-true}
+use Rattle.std.proofs.Common.{◌≡◌, ℕ, ◌-◌, ◌≤◌, true, cond, not, eqb, List, [], ◌∷◌, ◌++◌, length, take, drop, replicate, Option, Some, None, refl, ap, ◌∙◌, ⊎_elim, arith}
+use Rattle.std.proofs.lemmas.List.{take-append-drop, length-drop, length-take-le}
+use Rattle.std.proofs.lemmas.List.Sums.{prefix_len-le-length}
+use Rattle.std.proofs.lemmas.Bool.{and_parts, eqb-true, cases_lt, lt-ltb, le-ltb}
+use Rattle.std.specs.Prelude.{unwrap_or}
+use Rattle.std.specs.List.{position, position_or_len}
 use Rattle.layout.specs.Names.{up_to_zero, all_zero}
 
-module _ (xs : List ℕ) (i : ℕ) (sofar : take i xs ++ up_to_zero (drop i xs) ≡ up_to_zero xs) where
-  ended : up_to_zero (drop i xs) ≡ [] → take i xs ≡ up_to_zero xs
-  ended nothing = sym (append-nil (take i xs)) ∙ ap (λ rest. take i xs ++ rest) (sym nothing) ∙ sofar
-
-  pub name_ends : i < length xs → get_or xs i 0 ≡ 0 → take i xs ≡ up_to_zero xs
-  name_ends within zero = ended (at_drop_more up_to_zero xs i 0 within ∙ cond-true (eqb (get_or xs i 0) 0) _ _ (eq-eqb (get_or xs i 0) 0 zero))
-
-  pub name_fills : length xs ≤ i → take i xs ≡ up_to_zero xs
-  name_fills past = ended (at_drop_all up_to_zero xs i past)
-
-  pub name-goes-on : i < length xs → (get_or xs i 0 ≡ 0 → ⊥) → take (i + 1) xs ++ up_to_zero (drop (i + 1) xs) ≡ up_to_zero xs
-  name-goes-on within other =
-      let next = at_drop_more up_to_zero xs i 0 within ∙ cond-false (eqb (get_or xs i 0) 0) _ _ (ne_eqb (get_or xs i 0) 0 other) in
-      ap (λ front. front ++ up_to_zero (drop (i + 1) xs)) (take_more xs i 0 within) ∙ append_assoc (take i xs) (get_or xs i 0 ∷ []) (up_to_zero (drop (i + 1) xs)) ∙ ap (λ rest. take i xs ++ rest) (sym next) ∙ sofar
+-- the place of the first 0, or else the length, is how long the name is
+pub name_ends : (xs : List ℕ) (found : Option ℕ) (n : ℕ) → found ≡ position (λ x. eqb x 0) xs → n ≡ unwrap_or found (length xs) → n ≡ position_or_len (λ x. eqb x 0) xs
+name_ends xs found n is told =
+    let k = position_or_len (λ x. eqb x 0) xs in
+    let most : k ≤ length xs = prefix_len-le-length (λ x. not (eqb x 0)) xs in
+    let test = ap (λ o. unwrap_or o (length xs)) is in
+    ⊎_elim
+    (λ within. told ∙ test ∙ ap (λ b. unwrap_or (cond b (Some k) None) (length xs)) (lt-ltb k (length xs) within))
+    (λ past.
+    let whole : length xs ≡ k = omega arith in
+    told ∙ test ∙ ap (λ b. unwrap_or (cond b (Some k) None) (length xs)) (le-ltb k (length xs) past) ∙ whole)
+    (cases_lt k (length xs))
 
 zeros_are : (xs : List ℕ) → all_zero xs ≡ true → xs ≡ replicate (length xs) 0
 zeros_are [] e = refl
 zeros_are (x ∷ xs) e = let both = and_parts (eqb x 0) (all_zero xs) e in let first = eqb-true x 0 both.0 in let rest = zeros_are xs both.1 in cc
 
+pub length-name : (xs : List ℕ) → length (up_to_zero xs) ≡ position_or_len (λ x. eqb x 0) xs
+length-name xs = length-take-le (position_or_len (λ x. eqb x 0) xs) xs (prefix_len-le-length (λ x. not (eqb x 0)) xs)
+
 front_is : (xs : List ℕ) → take (length (up_to_zero xs)) xs ≡ up_to_zero xs
-front_is [] = refl
-front_is (x ∷ xs) = ⊎_elim (λ z. rw z refl) (λ more. rw more (ap (λ ys. x ∷ ys) (front_is xs))) (cases_Bool (eqb x 0))
+front_is xs = ap (λ n. take n xs) (length-name xs)
 
 -- a field whose name is followed by zeros only is made of the two
 pub field_is : (f : List ℕ) → all_zero (drop (length (up_to_zero f)) f) ≡ true → f ≡ up_to_zero f ++ replicate (length f - length (up_to_zero f)) 0
 field_is f zeros =
     let k = length (up_to_zero f) in
     let rest = zeros_are (drop k f) zeros ∙ ap (λ n. replicate n 0) (length-drop k f) in
-    sym (take-append-drop k f) ∙ ap (λ front. front ++ drop k f) (front_is f) ∙ ap (λ back. up_to_zero f ++ back) rest
+    cc (take-append-drop k f, front_is f)
 
 -- so fields as long as each other that hold the same name are the same
 pub same_field : (f g : List ℕ) → length f ≡ length g → all_zero (drop (length (up_to_zero f)) f) ≡ true → all_zero (drop (length (up_to_zero g)) g) ≡ true → up_to_zero f ≡ up_to_zero g → f ≡ g
 same_field f g long f-zeros g-zeros same =
-    field_is f f-zeros ∙ ap (λ n. up_to_zero f ++ replicate (n - length (up_to_zero f)) 0) long ∙ ap (λ name. name ++ replicate (length g - length name) 0) same ∙ sym (field_is g g-zeros)
+    cc (field_is f f-zeros, field_is g g-zeros)

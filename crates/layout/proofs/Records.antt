@@ -38,8 +38,7 @@ module _ (i : Inode) (fits : Recorded i) where
 
 -- the first eight bytes, where the size has been taken apart
 head_bytes : (mode links user group high low size : ℕ) (tail rest : List ℕ) → size / 65536 % 256 ≡ high → size % 65536 ≡ low → tail ≡ rest → ◌≡◌ {A = List ℕ} (mode % 256 ∷ mode / 256 ∷ links ∷ user ∷ group ∷ size / 65536 % 256 ∷ size % 65536 % 256 ∷ size % 65536 / 256 ∷ tail) (mode % 256 ∷ mode / 256 ∷ links ∷ user ∷ group ∷ high ∷ low % 256 ∷ low / 256 ∷ rest)
-head_bytes mode links user group high low size tail rest h l t =
-    ap (λ x. mode % 256 ∷ mode / 256 ∷ links ∷ user ∷ group ∷ x ∷ size % 65536 % 256 ∷ size % 65536 / 256 ∷ tail) h ∙ ap (λ x. mode % 256 ∷ mode / 256 ∷ links ∷ user ∷ group ∷ high ∷ x % 256 ∷ x / 256 ∷ tail) l ∙ ap (λ xs. mode % 256 ∷ mode / 256 ∷ links ∷ user ∷ group ∷ high ∷ low % 256 ∷ low / 256 ∷ xs) t
+head_bytes mode links user group high low size tail rest h l t = cc
 
 -- the two bytes of a word
 low_byte : (x y : ℕ) → x < 256 → (x + 256 * y) % 256 ≡ x
@@ -57,7 +56,9 @@ module _ (b : Block) (bytes : (n : ℕ) → byte_at b n < 256) where
       let here : at < length b = omega arith in
       let low = low_byte (byte_at b at) (byte_at b (at + 1)) (bytes at) in
       let high = high_byte (byte_at b at) (byte_at b (at + 1)) (bytes at) in
-      next_byte (suc n) at (at + 1) refl here ∙ ap (λ rest. byte_at b at ∷ rest) (next_byte n (at + 1) next (omega arith) within) ∙ ap (λ x. x ∷ byte_at b (at + 1) ∷ take n (drop next b)) (sym low) ∙ ap (λ x. word_at b at % 256 ∷ x ∷ take n (drop next b)) (sym high)
+      let first = next_byte (suc n) at (at + 1) refl here in
+      let second = next_byte n (at + 1) next (omega arith) within in
+      cc
 
   next_words : (base n j : ℕ) → base + 2 * (j + n) ≤ length b → word_bytes (map (λ k. word_at b (base + 2 * k)) (range_with_len j n)) ≡ take (2 * n) (drop (base + 2 * j) b)
   next_words base zero j within = refl
@@ -83,7 +84,8 @@ module _ (b : Block) (bytes : (n : ℕ) → byte_at b n < 256) where
     tail-bytes : word_bytes (eight (words_at 8 b (at + 8))) ++ eight (take 8 (drop (at + 24) b)) ≡ take 24 (drop (at + 8) b)
     tail-bytes =
         let behind : drop 16 (drop (at + 8) b) ≡ drop (at + 24) b = drop-drop 16 (at + 8) b ∙ (let e : at + 8 + 16 ≡ at + 24 = omega arith in ap (λ k. drop k b) e) in
-        ap (λ xs. xs ++ eight (take 8 (drop (at + 24) b))) addresses_bytes ∙ ap (λ ys. take 16 (drop (at + 8) b) ++ ys) (times_bytes ∙ ap (take 8) (sym behind)) ∙ sym (take-add 16 8 (drop (at + 8) b))
+        let parts = take-add 16 8 (drop (at + 8) b) in
+        cc (addresses_bytes, times_bytes)
 
     -- the size's bytes
     size_bytes : (h w : ℕ) → h < 256 → w < 65536 → ((65536 * h + w) / 65536 % 256 ≡ h) × ((65536 * h + w) % 65536 ≡ w)
@@ -98,5 +100,5 @@ module _ (b : Block) (bytes : (n : ℕ) → byte_at b n < 256) where
         let group = next_byte 27 (at + 4) (at + 5) (omega arith) (omega arith) in
         let high = next_byte 26 (at + 5) (at + 6) (omega arith) (omega arith) in
         let low = next_word 24 (at + 6) (at + 8) (omega arith) (omega arith) in
-        head_bytes (word_at b at) (byte_at b (at + 2)) (byte_at b (at + 3)) (byte_at b (at + 4)) (byte_at b (at + 5)) (word_at b (at + 6)) (65536 * byte_at b (at + 5) + word_at b (at + 6)) _ _ size.0 size.1 tail-bytes ∙
-        sym (front ∙ ap (λ r. word_at b at % 256 ∷ word_at b at / 256 ∷ r) (links ∙ ap (λ r. byte_at b (at + 2) ∷ r) (user ∙ ap (λ r. byte_at b (at + 3) ∷ r) (group ∙ ap (λ r. byte_at b (at + 4) ∷ r) (high ∙ ap (λ r. byte_at b (at + 5) ∷ r) low)))))
+        let bytes_are = head_bytes (word_at b at) (byte_at b (at + 2)) (byte_at b (at + 3)) (byte_at b (at + 4)) (byte_at b (at + 5)) (word_at b (at + 6)) (65536 * byte_at b (at + 5) + word_at b (at + 6)) _ _ size.0 size.1 tail-bytes in
+        cc

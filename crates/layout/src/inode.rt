@@ -1,14 +1,14 @@
 // An inode record: 32 bytes of the inode list.
 ghost use Rattle.std.specs.Prelude.{◌≡◌, ◌+◌, ◌≤◌, take, drop};
-ghost use Rattle.layout.specs.Inodes.{inode_at, inode_bytes, Recorded, allocated};
+ghost use Rattle.layout.specs.Inodes.{inode_at, inode_bytes, Recorded, allocated, blocks_for};
 
 use crate::words::{high, low, read_words, word_at};
-use store::interface::Block;
+use store::interface::{BLOCK_SIZE, Block};
 
 // The bytes of an inode record, sixteen of which make a block.
 pub const INODE_SIZE: usize = 32;
 
-#[derive(Clone, Copy, Debug)]
+#[derive(Clone, Copy, Debug, Default, PartialEq, Eq)]
 pub struct Inode {
     pub mode: u16,
     pub links: u8,
@@ -20,7 +20,7 @@ pub struct Inode {
 }
 
 impl Inode {
-    // The record that begins at that byte of a block.
+    // The record that begins at that byte of a block. No From, since it asks that the record lie within the block.
     pub fn decode(block: &Block, at: usize) -> Inode
         requires { at + 32 ≤ 512 }
         ensures value { result ≡ inode_at block.now at }
@@ -35,13 +35,14 @@ impl Inode {
             links: block[at + 2],
             user: block[at + 3],
             group: block[at + 4],
-            size: 65536 * (block[at + 5] as u32) + word_at(block, at + 6) as u32,
+            size: u32::from_le_bytes([block[at + 6], block[at + 7], block[at + 5], 0]),
             addresses,
             times,
         }
     }
 
-    // The 32 bytes of the record. A size has 24 bits there.
+    // The 32 bytes of the record. A size has 24 bits there. No From, since the contract also tells that they read back as the record; the size
+    // is divided, since `to_le_bytes` takes the check past its limits here.
     pub fn encode(&self) -> [u8; 32]
         ensures value { result ≡ inode_bytes self.now }
         ensures read_back { Recorded self.now → inode_at result 0 ≡ self.now }
@@ -83,6 +84,13 @@ impl Inode {
             y,
             z,
         ]
+    }
+
+    // The blocks that the file takes.
+    pub fn block_count(&self) -> usize
+        ensures { result ≡ blocks_for self.now.size }
+    {
+        (self.size as usize).div_ceil(BLOCK_SIZE)
     }
 
     pub fn is_allocated(&self) -> bool

@@ -1,5 +1,5 @@
 // Lawful file names.
-ghost use Rattle.std.specs.Prelude.{◌≡◌, ◌≤◌, length, take};
+ghost use Rattle.std.specs.Prelude.{◌≡◌, ◌≤◌, ◌==◌, length, position, take};
 ghost use Rattle.layout.specs.Names.{lawful, plain_byte, plain_bytes, up_to_zero, all_zero, lawful_field};
 
 // The longest name, and the bytes of a directory entry's name field.
@@ -16,12 +16,7 @@ fn is_plain(byte: u8) -> bool
 fn has_plain_bytes(name: &[u8]) -> bool
     ensures { result ≡ plain_bytes name.now }
 {
-    for byte in name {
-        if !is_plain(*byte) {
-            return false;
-        }
-    }
-    true
+    name.iter().all(|byte| is_plain(*byte))
 }
 
 // Question 18: 1 to 14 bytes, none of them 0 or a slash, and neither "." nor "..".
@@ -34,29 +29,25 @@ pub fn is_lawful(name: &[u8]) -> bool
     }
 }
 
+fn first_zero(field: &[u8]) -> Option<usize>
+    ensures { result ≡ position (λ x. x == 0) field.now }
+{
+    field.iter().position(|byte| *byte == 0)
+}
+
 // How many bytes stand before the first 0.
 pub fn name_len(field: &[u8]) -> usize
     ensures answer { result ≡ length (up_to_zero field.now) }
     ensures front { take result field.now ≡ up_to_zero field.now }
     ensures within { result ≤ length field.now }
 {
-    for i in 0..field.len() {
-        if field[i] == 0 {
-            return i;
-        }
-    }
-    field.len()
+    first_zero(field).unwrap_or(field.len())
 }
 
 fn is_all_zero(bytes: &[u8]) -> bool
     ensures { result ≡ all_zero bytes.now }
 {
-    for byte in bytes {
-        if *byte != 0 {
-            return false;
-        }
-    }
-    true
+    bytes.iter().all(|byte| *byte == 0)
 }
 
 // Whether a name field holds a lawful name, then zeros.

@@ -7,21 +7,23 @@ use store::interface::Block;
 pub fn low(word: u16) -> u8
     ensures { result ≡ word % 256 }
 {
-    (word % 256) as u8
+    let [low, _] = word.to_le_bytes();
+    low
 }
 
 pub fn high(word: u16) -> u8
     ensures { result ≡ word / 256 }
 {
-    (word / 256) as u8
+    let [_, high] = word.to_le_bytes();
+    high
 }
 
 // The word whose low byte is at that place.
-pub fn word_at(block: &Block, at: usize) -> u16
-    requires { at + 1 < 512 }
-    ensures { result ≡ word_at block.now at }
+pub fn word_at(bytes: &[u8], at: usize) -> u16
+    requires { at + 1 < length bytes.now }
+    ensures { result ≡ word_at bytes.now at }
 {
-    block[at] as u16 + 256 * (block[at + 1] as u16)
+    u16::from_le_bytes([bytes[at], bytes[at + 1]])
 }
 
 // Fills the list with the words from that place on.
@@ -29,8 +31,8 @@ pub fn read_words(block: &Block, at: usize, words: &mut [u16])
     requires { at + 2 * length words.old ≤ 512 }
     ensures { words.new ≡ words_at (length words.old) block.now at }
 {
-    for j in 0..words.len() {
-        words[j] = word_at(block, at + 2 * j);
+    for (j, word) in words.iter_mut().enumerate() {
+        *word = word_at(block, at + 2 * j);
     }
 }
 
@@ -39,6 +41,5 @@ pub fn set_word(block: &mut Block, at: usize, word: u16)
     requires { at + 1 < 512 }
     ensures { block.new ≡ with_word block.old at word }
 {
-    block[at] = low(word);
-    block[at + 1] = high(word);
+    [block[at], block[at + 1]] = word.to_le_bytes();
 }

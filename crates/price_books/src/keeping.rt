@@ -1,8 +1,8 @@
 // Price books kept as files of a volume in a plain store.
 use crate::books::{LIMITS, OFFER, OFFER_OF_MAY};
-use crate::telling::{bare, tell, text_of};
+use crate::telling::{tell, text_of};
 use allotment::format::format;
-use anyhow::anyhow;
+use anyhow::ensure;
 use reading::list::{FileRecord, list};
 use reading::read::read;
 use store::image::Image;
@@ -78,8 +78,9 @@ fn refusals<S: Store>(rt: &HostRuntime, store: &mut S) -> anyhow::Result<()> {
     tell(
         rt,
         "read offer into 10 bytes",
-        bare(read(store, b"offer", &mut [0; 10])),
-    )
+        read(store, b"offer", &mut [0; 10]),
+    )?;
+    Ok(())
 }
 
 // The files in the order of the directory.
@@ -94,7 +95,7 @@ fn show_files<S: Store>(rt: &HostRuntime, store: &S) -> anyhow::Result<()> {
 }
 
 fn show(rt: &HostRuntime, record: &FileRecord) -> anyhow::Result<()> {
-    let name = text_of(rt, &record.name)?;
+    let name = text_of(rt.alloc(), &record.name)?;
     let inode = record.inode;
     let size = record.size;
     println!(rt; "  {name:<14} inode {inode}, {size} bytes")?;
@@ -104,10 +105,11 @@ fn show(rt: &HostRuntime, record: &FileRecord) -> anyhow::Result<()> {
 // Reads the file, and compares it with the text that was written.
 fn compare<S: Store>(rt: &HostRuntime, store: &S, name: &str, text: &str) -> anyhow::Result<()> {
     let mut buffer = [0; 4096];
-    let size = read(store, name.as_bytes(), &mut buffer)?.min(4096);
-    if &buffer[0..size] != text.as_bytes() {
-        return Err(anyhow!("a file read back is not the file that was written"));
-    }
+    let size = read(store, name.as_bytes(), &mut buffer)?;
+    ensure!(
+        buffer.get(..size) == Some(text.as_bytes()),
+        "a file read back is not the file that was written"
+    );
     println!(rt; "  {name} read back: the same {size} bytes")?;
     Ok(())
 }

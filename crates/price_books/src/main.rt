@@ -13,6 +13,7 @@ fn main(rt: HostRuntime) -> anyhow::Result<()> {
     run(&rt)
 }
 
+// The functions name the host's runtime: under bounds such as `impl Print` the check of this crate takes half as long again.
 fn run(rt: &HostRuntime) -> anyhow::Result<()> {
     println!(rt; "PRICE BOOKS AS FILES")?;
     keep_books(rt)?;

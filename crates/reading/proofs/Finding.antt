@@ -1,11 +1,11 @@
 -- What is known of a file that was found by its name.
-use Rattle.std.proofs.Common.{◌≡◌, ℕ, ◌<◌, ◌≤◌, true, not, ◌&&◌, ltb, leb, List, length, get_or, Some, None, Ok, Option, sym, refl, ap, ◌∙◌, subst, arith}
-use Rattle.std.proofs.lemmas.Bool.{and_parts, leb-true}
+use Rattle.std.proofs.Common.{◌≡◌, ℕ, ◌<◌, ◌≤◌, true, List, length, get_or, Some, None, Ok, Option, sym, refl, ap, ◌∙◌, subst, arith}
+use Rattle.std.proofs.lemmas.Bool.{and_parts}
 use Rattle.std.specs.Str.{bytes_eq}
 use Rattle.store.specs.Stores.{Block}
 use Rattle.layout.specs.Entries.{entry_at}
-use Rattle.layout.specs.Inodes.{blocks_for, inode_of}
-use Rattle.layout.specs.Names.{lawful, plain_bytes, is_dots}
+use Rattle.layout.specs.Inodes.{blocks_for, inode_block, inode_of}
+use Rattle.layout.specs.declared.entry.Entry.{Entry}
 use Rattle.layout.specs.Superblocks.{is_data}
 use Rattle.layout.specs.declared.inode.Inode.{Inode}
 use Rattle.volume.specs.Directories.{used}
@@ -13,25 +13,30 @@ use Rattle.volume.specs.Openings.{Loaded}
 use Rattle.volume.specs.declared.loaded.Volume.{Volume}
 use Rattle.volume.specs.Rules.{isize_in, directory_of, entry_count}
 use Rattle.reading.proofs.Lowests.{lowest-some}
-use Rattle.volume.proofs.SoundFacts.{RulesHold}
+use Rattle.volume.specs.Soundness.{first_broken}
+use Rattle.volume.proofs.SoundFacts.{RulesHold, rules_hold}
 use Rattle.reading.proofs.FileFacts.{FileFacts, file_facts, data_there}
 use Rattle.reading.specs.Found.{file_of_entry, FileIn, present, file_named}
 use Rattle.reading.specs.Lookups.{field_of, is_named, entry_named}
 use Rattle.reading.specs.declared.file.File.{File}
 
--- a lawful name has at most 14 bytes
-pub lawful-short : (name : List ℕ) → lawful name ≡ true → length name ≤ 14
-lawful-short name is = leb-true (length name) 14 (and_parts (ltb 0 (length name)) (leb (length name) 14) (and_parts (ltb 0 (length name) && leb (length name) 14) (plain_bytes name && not (is_dots name)) is).0).1
-
 -- what was looked up in a loaded directory is what the volume has
-pub looked_up : (v : List Block) (o : Volume) (name : List ℕ) → Loaded v o → entry_named (entry_at o.directory) o.entries name ≡ entry_named (directory_of v) (entry_count v) name
-looked_up v o name loaded = ap (λ d. entry_named d o.entries name) loaded.directory ∙ ap (λ n. entry_named (directory_of v) n name) loaded.entries
+pub looked_up : (v : List Block) (o : Volume) (name : List ℕ) → Loaded v o → entry_named (entry_at o.directory.bytes) o.directory.len name ≡ entry_named (directory_of v) (entry_count v) name
+looked_up v o name loaded = ap (λ d. entry_named d o.directory.len name) loaded.directory ∙ ap (λ n. entry_named (directory_of v) n name) loaded.entries
 
 -- an entry that was found is used
 pub entry-used : (v : List Block) (name : List ℕ) (e : ℕ) → entry_named (directory_of v) (entry_count v) name ≡ Some e → (e < entry_count v) × (used (directory_of v) e ≡ true)
 entry-used v name e found =
     let is = lowest-some (is_named (directory_of v) (field_of name)) (entry_count v) e found in
     (is.0, (and_parts (used (directory_of v) e) (bytes_eq (directory_of v e).name (field_of name)) is.1).0)
+
+-- the entry that was read is the volume's, and the inode of a used one is in the volume
+pub entry_there : (v : List Block) (o : Volume) (e : ℕ) (x : Entry) → first_broken v ≡ None → Loaded v o → x ≡ entry_at o.directory.bytes e → e < o.directory.len → used (directory_of v) e ≡ true → (x ≡ directory_of v e) × (inode_block x.inode < length v)
+entry_there v o e x sound loaded is within listed =
+    let same = is ∙ ap (λ d. d e) loaded.directory in
+    let number = ap (λ y. y.inode) same in
+    let facts = file_facts v (rules_hold v sound) e (omega (arith, loaded.entries)) listed in
+    (same, omega (arith, facts.there))
 
 module _ (v : List Block) (f : File) (sound : RulesHold v) (stands : FileIn v f) where
   pub inode_is : f.inode ≡ inode_of v f.number

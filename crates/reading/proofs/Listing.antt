@@ -1,20 +1,21 @@
 -- The records of the files, written one after the other over the caller's.
-use Rattle.std.proofs.Common.{◌≡◌, ℕ, zero, suc, ◌+◌, ◌<◌, ◌≤◌, Bool, true, false, cond, leb, List, [], ◌∷◌, ◌++◌, map, length, drop, set, Ok, Err, sym, refl, ap, ◌∙◌, ⊎_elim, add-zero, add-one, arith}
-use Rattle.std.proofs.lemmas.List.{append-nil, append_assoc, drop_more, length-append, length-map, map-append, set_at}
-use Rattle.std.proofs.lemmas.Bool.{le-leb, lt-leb, cases_lt}
-use Rattle.faults.specs.Faults.{bare}
-use Rattle.store.specs.Stores.{Block, Mark}
-use Rattle.faults.specs.declared.Question.TheVariants.{EnoughPlaces}
-use Rattle.layout.specs.Entries.{Entries, entry_at}
+use Rattle.std.proofs.Common.{◌≡◌, ℕ, zero, suc, ◌+◌, ◌<◌, ◌≤◌, Bool, true, false, cond, List, [], ◌∷◌, ◌++◌, map, length, drop, set, sym, refl, ap, ◌∙◌, ⊎_elim, add-zero, add-one, arith}
+use Rattle.std.proofs.lemmas.List.{append-nil, append_assoc, drop_more, length-append, length-map, map-append, map-id, set_at}
+use Rattle.std.proofs.lemmas.List.FromFn.{filter_of_map_range_with_len_more}
+use Rattle.std.proofs.lemmas.Bool.{cases_lt}
+use Rattle.std.specs.List.{filter, range_with_len}
+use Rattle.store.specs.Stores.{Block}
+use Rattle.layout.specs.Entries.{Entries}
 use Rattle.volume.specs.Directories.{used}
-use Rattle.volume.specs.Openings.{open_answer, Loaded}
-use Rattle.volume.specs.Rules.{directory_of, entry_count}
-use Rattle.volume.specs.Soundness.{followed_by}
-use Rattle.volume.specs.declared.loaded.Volume.{Volume}
 use Rattle.volume.specs.VolumeFiles.{used_among}
-use Rattle.reading.specs.Listings.{record_at, one, records_among, records_of, list_out, list_call}
-use Rattle.reading.specs.Questions.{asks}
+use Rattle.reading.specs.Listings.{record_at, one, records_among}
 use Rattle.reading.specs.declared.list.FileRecord.{FileRecord}
+
+-- the places of the used entries are those that a filter passes
+pub used_among-filter : (d : Entries) (n : ℕ) → filter (used d) (range_with_len 0 n) ≡ used_among d n
+unfolding used_among
+used_among-filter d zero = refl
+used_among-filter d (suc n) = let next : suc n ≡ n + 1 = omega arith in ap (λ m. filter (used d) (range_with_len 0 m)) next ∙ ap (filter (used d)) (sym (map-id (range_with_len 0 (n + 1)))) ∙ filter_of_map_range_with_len_more (used d) (λ k. k) 0 n n (omega arith) ∙ ap (λ xs. filter (used d) xs ++ cond (used d n) (n ∷ []) []) (map-id (range_with_len 0 n)) ∙ ap (λ xs. xs ++ cond (used d n) (n ∷ []) []) (used_among-filter d n)
 
 -- one record more, if there is one
 written : (b : Bool) (x : FileRecord) (sofar before records : List FileRecord) (filled : ℕ) → length sofar ≡ filled → (b ≡ true → filled < length before) → records ≡ sofar ++ drop filled before → cond b (set records filled x) records ≡ (sofar ++ cond b (x ∷ []) []) ++ drop (filled + cond b 1 0) before
@@ -71,18 +72,3 @@ module _ (v : List Block) (d : Entries) where
   pub records_next : (e filled : ℕ) (before records : List FileRecord) → filled ≡ length (used_among d e) → (used d e ≡ true → filled < length before) → records ≡ records_among v d e ++ drop filled before → cond (used d e) (set records filled (record_at v d e)) records ≡ records_among v d (e + 1) ++ drop (filled + one d e) before
   records_next e filled before records count room is =
       written (used d e) (record_at v d e) (records_among v d e) before records filled (length-records e ∙ sym count) room is ∙ ap (λ xs. xs ++ drop (filled + one d e) before) (sym (records_among-more e))
-
-module _ (v : List Block) (marks : List Mark) (records : List FileRecord) (opened : open_answer v marks ≡ Ok tt) where
-  -- question 14 says no
-  pub list_few : length records < length (records_of v) → list_call v marks records ≡ (Err (bare EnoughPlaces), records)
-  list_few few =
-      ap (λ r. list_out records (followed_by r (asks (leb (length (records_of v)) (length records)) (bare EnoughPlaces) (Ok (records_of v))))) opened ∙ ap (λ b. list_out records (asks b (bare EnoughPlaces) (Ok (records_of v)))) (lt-leb (length (records_of v)) (length records) few)
-
-  pub list_done : length (records_of v) ≤ length records → list_call v marks records ≡ (Ok (length (records_of v)), records_of v ++ drop (length (records_of v)) records)
-  list_done room =
-      ap (λ r. list_out records (followed_by r (asks (leb (length (records_of v)) (length records)) (bare EnoughPlaces) (Ok (records_of v))))) opened ∙ ap (λ b. list_out records (asks b (bare EnoughPlaces) (Ok (records_of v)))) (le-leb (length (records_of v)) (length records) room)
-
--- what was counted in a loaded directory is how many files there are
-pub counted : (v : List Block) (o : Volume) (count : ℕ) → Loaded v o → count ≡ length (used_among (entry_at o.directory) o.entries) → count ≡ length (records_of v)
-counted v o count loaded is =
-    is ∙ ap (λ d. length (used_among d o.entries)) loaded.directory ∙ ap (λ n. length (used_among (directory_of v) n)) loaded.entries ∙ sym (length-records v (directory_of v) (entry_count v))

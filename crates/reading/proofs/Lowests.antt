@@ -1,17 +1,14 @@
--- Laws of the lowest number that passes a test, as loops that count up use them.
-use Rattle.std.proofs.Common.{◌≡◌, ℕ, zero, suc, ◌+◌, ◌<◌, Bool, true, false, cond, ◌⊎◌, Some, None, Option, sym, refl, ap, ◌∙◌, inl, inr, ⊎_elim, add-one, arith}
+-- Laws of the lowest number that passes a test.
+use Rattle.std.proofs.Common.{◌≡◌, ℕ, zero, suc, ◌<◌, ◌≤◌, Bool, true, false, cond, ◌⊎◌, Some, None, Option, sym, refl, ap, ◌∙◌, inl, inr, ⊎_elim, arith}
+use Rattle.std.specs.Option.{MatchOption}
 use Rattle.std.proofs.lemmas.Bool.{cases_eq}
 use Rattle.reading.specs.Lowest.{or_else, lowest}
 
 module _ (p : ℕ → Bool) where
-  pub lowest-none : lowest 0 p ≡ None
+  lowest-absent : (n : ℕ) → ((k : ℕ) → k < n → p k ≡ false) → lowest n p ≡ None
   unfolding lowest
-  lowest-none = refl
-
-  -- one number more fails
-  pub lowest-more : (n : ℕ) → lowest n p ≡ None → p n ≡ false → lowest (n + 1) p ≡ None
-  unfolding lowest
-  lowest-more n sofar here = rw add-one (ap (λ o. or_else o (cond (p n) (Some n) None)) sofar ∙ ap (λ b. cond b (Some n) None) here)
+  lowest-absent zero fails = refl
+  lowest-absent (suc n) fails = ap (λ o. or_else o (cond (p n) (Some n) None)) (lowest-absent n (λ k lt. fails k (omega arith))) ∙ ap (λ b. cond b (Some n) None) (fails n (omega arith))
 
   -- all below k fail and k passes
   pub lowest-at : (n k : ℕ) → k < n → lowest k p ≡ None → p k ≡ true → lowest n p ≡ Some k
@@ -22,6 +19,11 @@ module _ (p : ℕ → Bool) where
       (λ same. ap (λ o. or_else o (cond (p n) (Some n) None)) (ap (λ m. lowest m p) (sym same) ∙ sofar) ∙ ap (λ b. cond b (Some n) None) (ap p (sym same) ∙ here) ∙ ap Some (sym same))
       (λ other. ap (λ o. or_else o (cond (p n) (Some n) None)) (lowest-at n k (omega arith) sofar here))
       (cases_eq k n)
+
+  -- what a search through the numbers below n finds
+  pub lowest-found : (n : ℕ) (r : Option ℕ) → MatchOption r ((k : ℕ) → 0 ≤ k → k < n → p k ≡ false) (λ i. (0 ≤ i) × (i < n) × (p i ≡ true) × ((k : ℕ) → 0 ≤ k → k < i → p k ≡ false)) → r ≡ lowest n p
+  lowest-found n (Some i) found = sym (lowest-at n i found.1 (lowest-absent i (λ k lt. found.3 k (omega arith) lt)) found.2)
+  lowest-found n None none = sym (lowest-absent n (λ k lt. none k (omega arith) lt))
 
   -- what is there, or else the last number
   pub last_or_before : (o : Option ℕ) (b : Bool) (n k : ℕ) → or_else o (cond b (Some n) None) ≡ Some k → (o ≡ Some k) ⊎ ((b ≡ true) × (n ≡ k))

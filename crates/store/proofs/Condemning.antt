@@ -1,31 +1,11 @@
--- Laws of the condemned numbers: looking through them one by one, and adding one.
-use Rattle.std.proofs.Common.{◌≡◌, ℕ, ◌+◌, ◌<◌, ◌≤◌, true, false, cond, ◌||◌, eqb, ltb, List, [], ◌∷◌, ◌++◌, length, get_or, take, drop, set, Ok, Err, sym, refl, ap, ◌∙◌, ⊎_elim, arith, length-take}
+-- Laws of the condemned numbers, when one is added.
+use Rattle.std.proofs.Common.{◌≡◌, ℕ, ◌<◌, true, false, cond, ◌||◌, eqb, ltb, List, [], ◌∷◌, ◌++◌, length, get_or, set, Ok, sym, refl, ap, ◌∙◌, ⊎_elim, arith}
 use mathlib.Core.Bool.{or-false}
-use Rattle.std.proofs.lemmas.List.{at_drop_more, get_or-take, get_or-set_same, get_or-set_other, length-set, ext_get_or}
-use Rattle.std.proofs.lemmas.Bool.{eq-eqb, ne_eqb, lt-ltb, le-ltb, or_left, or_right, or_from, cond-true, cond-false, cond_both, cases_eq}
+use Rattle.std.proofs.lemmas.List.{get_or-set_same, get_or-set_other, length-set, ext_get_or}
+use Rattle.std.proofs.lemmas.List.Folds.{list_any-append}
+use Rattle.std.proofs.lemmas.Bool.{eq-eqb, ne_eqb, lt-ltb, or_left, or_right, cond-true, cond-false, cond_both, cases_eq}
 use Rattle.store.specs.Condemned.{Condemns, holds, room_for, may_condemn, joined_by, mark_of, marked, length_marked, get_or_marked}
-use Rattle.faults.specs.Faults.{bare, past_count}
 use Rattle.store.specs.Stores.{live, dead}
-use Rattle.faults.specs.declared.Question.TheVariants.{RoomToCondemn}
-
-module _ (xs : List ℕ) (n i count : ℕ) (within : i < count) (inside : i < length xs) where
-  holds-next : holds n (drop i (take count xs)) ≡ (eqb (get_or xs i 0) n || holds n (drop (i + 1) (take count xs)))
-  holds-next =
-      let size = length-take count xs in
-      at_drop_more (holds n) (take count xs) i 0 (omega arith) ∙ ap (λ x. eqb x n || holds n (drop (i + 1) (take count xs))) (get_or-take count xs i 0 within)
-
-  -- the number at i is n
-  pub holds-here : get_or xs i 0 ≡ n → holds n (drop i (take count xs)) ≡ true
-  holds-here e = holds-next ∙ ap (λ b. b || holds n (drop (i + 1) (take count xs))) (eq-eqb (get_or xs i 0) n e)
-
-  -- the number at i is another
-  pub holds_on : (get_or xs i 0 ≡ n → ⊥) → holds n (drop (i + 1) (take count xs)) ≡ holds n (drop i (take count xs))
-  holds_on e = sym (holds-next ∙ ap (λ b. b || holds n (drop (i + 1) (take count xs))) (ne_eqb (get_or xs i 0) n e))
-
--- a number is found behind the others
-holds-append : (m : ℕ) (xs ys : List ℕ) → holds m (xs ++ ys) ≡ (holds m xs || holds m ys)
-holds-append m [] ys = refl
-holds-append m (x ∷ xs) ys = elim (eqb x m) as (λ b. (b || holds m (xs ++ ys)) ≡ ((b || holds m xs) || holds m ys)) [ true ↦ refl | false ↦ holds-append m xs ys ]
 
 module _ (n : ℕ) (xs : List ℕ) where
   -- n is condemned now
@@ -33,14 +13,14 @@ module _ (n : ℕ) (xs : List ℕ) where
   holds-joined =
       cond_both (holds n xs) xs (xs ++ n ∷ []) (λ ys. holds n ys ≡ true)
       (λ old. old)
-      (λ fresh. holds-append n xs (n ∷ []) ∙ or_right (holds n xs) _ (or_left (eqb n n) false (eq-eqb n n refl)))
+      (λ fresh. list_any-append (λ x. eqb x n) xs (n ∷ []) ∙ or_right (holds n xs) _ (or_left (eqb n n) false (eq-eqb n n refl)))
 
   -- and no other block is that was not
   holds-others : (m : ℕ) → (m ≡ n → ⊥) → holds m (joined_by n xs) ≡ holds m xs
   holds-others m other =
       cond_both (holds n xs) xs (xs ++ n ∷ []) (λ ys. holds m ys ≡ holds m xs)
       (λ old. refl)
-      (λ fresh. holds-append m xs (n ∷ []) ∙ ap (λ b. holds m xs || (b || false)) (ne_eqb n m (λ e. other (sym e))) ∙ or-false (holds m xs))
+      (λ fresh. list_any-append (λ x. eqb x m) xs (n ∷ []) ∙ ap (λ b. holds m xs || (b || false)) (ne_eqb n m (λ e. other (sym e))) ∙ or-false (holds m xs))
 
   -- condemning marks the one block dead
   pub marked-joined : (count : ℕ) → n < count → marked (joined_by n xs) count ≡ set (marked xs count) n (dead 0 0)
@@ -58,23 +38,9 @@ module _ (n : ℕ) (xs : List ℕ) where
       (cases_eq m n))
 
 module _ (count n : ℕ) (xs : List ℕ) where
-  pub condemns_past : count ≤ n → Condemns count n xs xs (Err (past_count n))
-  condemns_past past = record {
-    answer = sym (cond-false (ltb n count) _ _ (le-ltb n count past));
-    after = refl;
-    marks = refl;
-  }
-
   module _ (within : n < count) where
     asks-room : may_condemn count n xs ≡ room_for n xs
     asks-room = cond-true (ltb n count) _ _ (lt-ltb n count within)
-
-    pub condemns-full : holds n xs ≡ false → 8 ≤ length xs → Condemns count n xs xs (Err (bare RoomToCondemn))
-    condemns-full fresh full = record {
-      answer = sym (asks-room ∙ cond-false (holds n xs || ltb (length xs) 8) _ _ (or_from (holds n xs) _ fresh (le-ltb (length xs) 8 full)));
-      after = refl;
-      marks = refl;
-    }
 
     accepted : (ys : List ℕ) → ys ≡ joined_by n xs → (holds n xs || ltb (length xs) 8) ≡ true → Condemns count n xs ys (Ok tt)
     accepted ys e room = record {

@@ -3,3 +3,4 @@ pub mod Condemning
 pub mod Cuts
 pub mod StripeCalls
 pub mod Turns
+pub mod Zeros

@@ -3,7 +3,8 @@ use Rattle.std.proofs.Common.{◌≡◌, ℕ, ◌/◌, ◌%◌, ◌<◌, ◌≤�
 use Rattle.std.proofs.lemmas.List.{ext_get_or, length-set, get_or-set_same, get_or-set_other, drop-set-lt}
 use Rattle.std.proofs.lemmas.Bool.{eq-eqb, ne_eqb, cond-true, cond-false, cases_eq}
 use Rattle.store.proofs.Asking.{asked-past, asked-within}
-use Rattle.faults.specs.Faults.{past_count}
+use Rattle.std.specs.Result.{MatchResult, IsErrAnd}
+use Rattle.faults.specs.Faults.{past_count, renumbered}
 use Rattle.store.specs.Stores.{Mark, live, dead, judged, asked}
 use Rattle.store.specs.Stripes.{stripe_count, in_turn, striped, from_part, length_striped, get_or_striped}
 use Rattle.faults.specs.declared.Fault.{Fault}
@@ -90,3 +91,9 @@ module _ {X : Type 0} (d : X) (xs ys : List X) (n : ℕ) (x : X) (within : n < s
 pub rest_kept : {X : Type 0} (ok : Bool) (xs us : List X) (n k : ℕ) (x : X) → n < k → us ≡ cond ok (set xs n x) xs → drop k us ≡ drop k xs
 rest_kept true xs us n k x below e = ap (drop k) e ∙ drop-set-lt k xs n x below
 rest_kept false xs us n k x below e = ap (drop k) e
+
+-- what `map_err` makes of a part's answer
+pub from_part-mapped : (n : ℕ) (r s : Result (Unit {0}) Fault) {P : Fault → Fault → Type 0} → ((f h : Fault) → P f h → h ≡ renumbered n f) → MatchResult r (λ x. s ≡ Ok x) (λ f. IsErrAnd s (P f)) → s ≡ from_part n r
+from_part-mapped n (Ok u) s gives cases = cases
+from_part-mapped n (Err f) (Ok u) gives cases = absurd cases
+from_part-mapped n (Err f) (Err h) gives cases = ap Err (gives f h cases)

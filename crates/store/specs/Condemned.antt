@@ -1,8 +1,8 @@
 -- The condemned blocks of a plain store: which there are, when one more is taken, and the marks they give.
-use Rattle.std.specs.Prelude.{◌≡◌, ℕ, ◌<◌, Bool, false, cond, ◌||◌, List, [], ◌∷◌, ◌++◌, map, length, take, is_ok, Ok, Err, Result, ◌==◌, nat_lt, slice_index_or, slice_set}
+use Rattle.std.specs.Prelude.{◌≡◌, ℕ, ◌<◌, Bool, cond, ◌||◌, List, [], ◌∷◌, ◌++◌, map, length, is_ok, Ok, Err, Result, ◌==◌, nat_lt, slice_index_or, slice_set}
 use Rattle.std.proofs.Common.{arith}
 use Rattle.std.proofs.lemmas.List.FromFn.{length-map-range_with_len, get_or-map-range_with_len}
-use Rattle.std.specs.List.{range_with_len}
+use Rattle.std.specs.List.{list_any, range_with_len}
 use Rattle.store.specs.declared.condemned.Condemned.{Condemned}
 use Rattle.faults.specs.declared.Fault.{Fault}
 use Rattle.faults.specs.declared.Question.TheVariants.{RoomToCondemn}
@@ -11,12 +11,11 @@ use Rattle.store.specs.Stores.{Mark, live, dead}
 
 -- The numbers condemned so far.
 abbrev pub listed : Condemned → List ℕ
-listed c = take c.count c.numbers
+listed c = c.numbers.items
 
 -- Whether n is among them.
 abbrev pub holds : ℕ → List ℕ → Bool
-holds n [] = false
-holds n (x ∷ xs) = x == n || holds n xs
+holds n xs = list_any (λ x. x == n) xs
 
 -- Question 3: is n condemned already, or are fewer than eight?
 abbrev pub room_for : ℕ → List ℕ → Result (Unit {0}) Fault

@@ -1,12 +1,14 @@
 -- What a stripe of two stores means: the blocks of its parts in turn.
-use Rattle.std.specs.Prelude.{◌≡◌, ℕ, ◌*◌, ◌/◌, ◌%◌, ◌<◌, min, cond, List, [], map, length, drop, Ok, Err, Result, ◌==◌, slice_index_or, refl}
+use Rattle.std.specs.Prelude.{◌≡◌, ◌≢◌, ℕ, ◌*◌, ◌/◌, ◌%◌, ◌<◌, ◌≤◌, min, cond, List, [], map, length, drop, Ok, Err, Result, ◌==◌, slice_index_or, refl}
 use Rattle.std.proofs.Common.{sym, ap, ◌∙◌, arith}
 use Rattle.std.proofs.lemmas.List.FromFn.{length-map-range_with_len, get_or-map-range_with_len}
 use Rattle.std.proofs.lemmas.Bool.{cond_both}
 use Rattle.std.specs.List.{range_with_len}
-use Rattle.faults.specs.Faults.{renumbered}
+use Rattle.faults.specs.Faults.{past_count, renumbered}
 use Rattle.store.specs.Stores.{Block, Mark, live, Laws}
 use Rattle.faults.specs.declared.Fault.{Fault}
+use Rattle.store.specs.declared.stripe.Place.{Place}
+use Rattle.store.specs.declared.stripe.Place.TheVariants.{First, Second}
 use Rattle.store.specs.declared.stripe.Stripe.{Stripe}
 
 -- How many blocks a stripe shows: twice the smaller count, up to the greatest number.
@@ -20,6 +22,12 @@ in_turn d xs ys n = cond (n % 2 == 0) (slice_index_or xs (n / 2) d) (slice_index
 -- Two lists in turn. The default d is never reached.
 unfoldable pub striped : {X : Type 0} → X → List X → List X → List X
 striped d xs ys = map (in_turn d xs ys) (range_with_len 0 (stripe_count (length xs) (length ys)))
+
+-- Where block n of a stripe of count blocks lies, and the refusal if there is none.
+abbrev pub LiesAt : (count n : ℕ) → Result Place Fault → Type 0
+LiesAt count n (Ok (First k)) = (n < count) × (n % 2 ≡ 0) × (k ≡ n / 2)
+LiesAt count n (Ok (Second k)) = (n < count) × (n % 2 ≢ 0) × (k ≡ n / 2)
+LiesAt count n (Err f) = (count ≤ n) × (f ≡ past_count n)
 
 -- What a part answered, for the block's number in the stripe.
 abbrev pub from_part : ℕ → Result (Unit {0}) Fault → Result (Unit {0}) Fault

@@ -1,31 +1,17 @@
 // The blocks of a plain store that have been condemned, in the order in which they were.
-ghost use Rattle.std.specs.Prelude.{◌≡◌, ◌<◌, true, [], length, take, is_ok};
+ghost use Rattle.std.specs.Prelude.{◌≡◌, ◌<◌, true, [], is_ok};
 ghost use Rattle.store.specs.Condemned.{Condemns, listed, holds, marked};
 ghost use Rattle.store.specs.Stores.{asked};
 
+use arrayvec::ArrayVec;
 use faults::{Fault, Question};
 
 // A plain store has at most eight condemned blocks.
 const MAX_CONDEMNED: usize = 8;
 
-// The first `count` numbers. It has no invariant in its type, since an image holds it beside the caller's memory.
-#[derive(Clone, Copy)]
+#[derive(Drop)]
 pub(crate) struct Condemned {
-    numbers: [usize; 8],
-    count: usize,
-}
-
-// Whether n is among the first `count` numbers.
-fn among(numbers: &[usize; 8], count: usize, n: usize) -> bool
-    ensures answer { result ≡ holds n (take count numbers.now) }
-    ensures places { length numbers.now ≡ 8 }
-{
-    for i in 0..count.min(MAX_CONDEMNED) {
-        if numbers[i] == n {
-            return true;
-        }
-    }
-    false
+    numbers: ArrayVec<usize, MAX_CONDEMNED>,
 }
 
 impl Condemned {
@@ -33,9 +19,14 @@ impl Condemned {
         ensures { listed result ≡ [] }
     {
         Condemned {
-            numbers: [0; 8],
-            count: 0,
+            numbers: ArrayVec::new(),
         }
+    }
+
+    fn holds(&self, n: usize) -> bool
+        ensures { result ≡ holds n (listed self.now) }
+    {
+        self.numbers.contains(&n)
     }
 
     // Questions 1 and 2 of block n, in a plain store of `total` blocks.
@@ -46,7 +37,7 @@ impl Condemned {
         if n >= total {
             return Err(Fault::past_count(n));
         }
-        if among(&self.numbers, self.count, n) {
+        if self.holds(n) {
             return Err(Fault::dead_block(n));
         }
         Ok(())
@@ -59,14 +50,13 @@ impl Condemned {
         if n >= total {
             return Err(Fault::past_count(n));
         }
-        if among(&self.numbers, self.count, n) {
+        if self.holds(n) {
             return Ok(());
         }
-        if self.count >= MAX_CONDEMNED {
-            return Err(Fault::bare(Question::RoomToCondemn));
+        if self.numbers.is_full() {
+            return Err(Fault::from(Question::RoomToCondemn));
         }
-        self.numbers[self.count] = n;
-        self.count += 1;
+        self.numbers.push(n);
         Ok(())
     }
 }

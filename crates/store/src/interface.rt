@@ -10,7 +10,7 @@ pub const BLOCK_SIZE: usize = 512;
 // The most blocks that a store may show.
 pub const MAX_BLOCKS: usize = 1_048_576;
 
-pub type Block = [u8; 512];
+pub type Block = [u8; BLOCK_SIZE];
 
 // Code over a store is proved against the two lists alone. `moved` says of two states that accepted puts
 // lead from one to the other, and what a kind of store keeps besides that the lists do not show.

@@ -5,6 +5,8 @@ mod condemned;
 pub mod image;
 pub mod interface;
 pub mod liveness;
+pub mod memory;
+pub mod padding;
 pub mod plain;
 pub mod pocket;
 pub mod stripe;

@@ -1,11 +1,12 @@
-// What the plain stores share: the whole blocks of a memory, some of them condemned.
-ghost use Rattle.std.specs.Prelude.{◌≡◌, ◌<◌, true, length, is_ok};
-ghost use Rattle.store.specs.Condemned.{listed};
-ghost use Rattle.store.specs.Plain.{whole_blocks, cut, plain_marks, Rewritten};
-ghost use Rattle.store.specs.Stores.{asked, Fetched};
+// A plain store: the whole blocks of a memory, some of them condemned.
+ghost use Rattle.std.specs.Prelude.{◌≡◌, ◌<◌, true, [], length, is_ok};
+ghost use Rattle.store.specs.Condemned.{Condemns, listed};
+ghost use Rattle.store.specs.Plain.{whole_blocks, plain_bytes, plain_condemned, shown_blocks, shown_marks, PlainMoved, plain_laws};
+ghost use Rattle.store.specs.Stores.{asked};
 
 use crate::condemned::Condemned;
-use crate::interface::{BLOCK_SIZE, Block, MAX_BLOCKS};
+use crate::interface::{BLOCK_SIZE, Block, MAX_BLOCKS, Store};
+use crate::memory::Memory;
 use faults::Fault;
 
 // How many blocks a memory of that length shows. The bytes past them are never touched.
@@ -15,49 +16,69 @@ pub fn whole_blocks(len: usize) -> usize
     (len / BLOCK_SIZE).min(MAX_BLOCKS)
 }
 
-// How many blocks the memory shows.
-pub(crate) fn count_of(memory: &[u8]) -> usize
-    ensures whole { result ≡ whole_blocks (length memory.now) }
-    ensures shown { result ≡ length (cut memory.now) }
-{
-    whole_blocks(memory.len())
+#[derive(Drop)]
+pub struct Plain<M> {
+    memory: M,
+    condemned: Condemned,
 }
 
-// Questions 1 and 2 of block n.
-pub(crate) fn ask(memory: &[u8], condemned: &Condemned, n: usize) -> Result<(), Fault>
-    ensures answer { result ≡ asked (plain_marks (listed condemned.now) memory.now) n }
-    ensures within { is_ok result ≡ true → n < whole_blocks (length memory.now) }
-{
-    condemned.ask(n, count_of(memory))
+impl<M: Memory> Plain<M> {
+    // A store over the memory, every block live.
+    pub(crate) fn over(memory: M) -> Plain<M>
+        ensures memory { result.memory ≡ memory }
+        ensures condemned { plain_condemned result ≡ [] }
+    {
+        Plain {
+            memory,
+            condemned: Condemned::none(),
+        }
+    }
+
+    // Marks block n dead. It is made before the store enters a pile of stores.
+    pub fn condemn(&mut self, n: usize) -> Result<(), Fault>
+        ensures condemns { Condemns (whole_blocks (length (plain_bytes M.items self.old))) n (plain_condemned self.old) (plain_condemned self.new) result }
+        ensures memory { self.new.memory ≡ self.old.memory }
+    {
+        let total = whole_blocks(self.memory.as_slice().len());
+        self.condemned.condemn(n, total)
+    }
+
+    // Questions 1 and 2 of block n.
+    fn ask(&self, n: usize) -> Result<(), Fault>
+        ensures answer { result ≡ asked (shown_marks M.items self.now) n }
+        ensures within { is_ok result ≡ true → n < whole_blocks (length (plain_bytes M.items self.now)) }
+    {
+        self.condemned.ask(n, self.count())
+    }
 }
 
-// Fills the buffer with block n of the memory.
-pub(crate) fn fetch_from(
-    memory: &[u8],
-    condemned: &Condemned,
-    n: usize,
-    buffer: &mut Block,
-) -> Result<(), Fault>
-    ensures { Fetched (cut memory.now) (plain_marks (listed condemned.now) memory.now) n buffer.old buffer.new result }
-{
-    ask(memory, condemned, n)?;
-    let start = BLOCK_SIZE * n;
-    buffer.copy_from_slice(&memory[start..start + BLOCK_SIZE]);
-    Ok(())
-}
+impl<M: Memory> Store for Plain<M> {
+    ghost blocks = { shown_blocks M.items };
 
-// Makes block n of the memory equal to the contents, and touches no other byte.
-pub(crate) fn put_into(
-    memory: &mut [u8],
-    condemned: &Condemned,
-    n: usize,
-    contents: &Block,
-) -> Result<(), Fault>
-    ensures answer { result ≡ asked (plain_marks (listed condemned.now) memory.old) n }
-    ensures after { Rewritten n contents.now memory.old memory.new (is_ok result) }
-{
-    ask(memory, condemned, n)?;
-    let start = BLOCK_SIZE * n;
-    memory[start..start + BLOCK_SIZE].copy_from_slice(contents);
-    Ok(())
+    ghost marks = { shown_marks M.items };
+
+    ghost moved = { PlainMoved M.items M.reference };
+
+    ghost laws = { plain_laws M.items M.reference };
+
+    fn count(&self) -> usize {
+        whole_blocks(self.memory.as_slice().len())
+    }
+
+    fn live(&self, n: usize) -> bool {
+        self.ask(n).is_ok()
+    }
+
+    fn fetch(&self, n: usize, buffer: &mut Block) -> Result<(), Fault> {
+        self.ask(n)?;
+        let start = BLOCK_SIZE * n;
+        buffer.copy_from_slice(&self.memory.as_slice()[start..start + BLOCK_SIZE]);
+        Ok(())
+    }
+
+    fn put(&mut self, n: usize, contents: &Block) -> Result<(), Fault> {
+        self.ask(n)?;
+        self.memory.put_block(n, contents);
+        Ok(())
+    }
 }

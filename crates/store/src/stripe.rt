@@ -1,6 +1,6 @@
 // A stripe of two stores: the blocks of its parts in turn.
 ghost use Rattle.std.specs.Prelude.{◌≡◌, length};
-ghost use Rattle.store.specs.Stripes.{from_part, stripe_blocks, stripe_marks, StripeMoved, stripe_laws};
+ghost use Rattle.store.specs.Stripes.{LiesAt, stripe_blocks, stripe_marks, StripeMoved, stripe_laws};
 
 use crate::interface::{Block, MAX_BLOCKS, Store};
 use faults::Fault;
@@ -11,14 +11,10 @@ pub struct Stripe<A, B> {
     second: B,
 }
 
-// What a part answered, for the block's number in the stripe.
-fn from_part(answer: Result<(), Fault>, n: usize) -> Result<(), Fault>
-    ensures { result ≡ from_part n answer }
-{
-    match answer {
-        Ok(()) => Ok(()),
-        Err(fault) => Err(fault.renumbered(n)),
-    }
+// Where a block of a stripe lies: in which part, and at which number there.
+enum Place {
+    First(usize),
+    Second(usize),
 }
 
 impl<A: Store, B: Store> Stripe<A, B> {
@@ -37,6 +33,20 @@ impl<A: Store, B: Store> Stripe<A, B> {
         let Stripe { first, second } = self;
         (first, second)
     }
+
+    // Even blocks are the first part's, odd ones the second's.
+    fn place(&self, n: usize) -> Result<Place, Fault>
+        ensures { LiesAt (length (stripe_blocks A.Store.blocks B.Store.blocks self.now)) n result }
+    {
+        if n >= self.count() {
+            return Err(Fault::past_count(n));
+        }
+        if n % 2 == 0 {
+            Ok(Place::First(n / 2))
+        } else {
+            Ok(Place::Second(n / 2))
+        }
+    }
 }
 
 impl<A: Store, B: Store> Store for Stripe<A, B> {
@@ -54,35 +64,27 @@ impl<A: Store, B: Store> Store for Stripe<A, B> {
     }
 
     fn live(&self, n: usize) -> bool {
-        if n >= self.count() {
-            return false;
-        }
-        if n % 2 == 0 {
-            self.first.live(n / 2)
-        } else {
-            self.second.live(n / 2)
+        match self.place(n) {
+            Ok(Place::First(k)) => self.first.live(k),
+            Ok(Place::Second(k)) => self.second.live(k),
+            Err(_) => false,
         }
     }
 
     fn fetch(&self, n: usize, buffer: &mut Block) -> Result<(), Fault> {
-        if n >= self.count() {
-            return Err(Fault::past_count(n));
+        match self.place(n)? {
+            Place::First(k) => self.first.fetch(k, buffer),
+            Place::Second(k) => self.second.fetch(k, buffer),
         }
-        if n % 2 == 0 {
-            from_part(self.first.fetch(n / 2, buffer), n)
-        } else {
-            from_part(self.second.fetch(n / 2, buffer), n)
-        }
+        .map_err(|fault| fault.renumbered(n))
     }
 
+    // Not one function with `fetch`: what that reads, this changes.
     fn put(&mut self, n: usize, contents: &Block) -> Result<(), Fault> {
-        if n >= self.count() {
-            return Err(Fault::past_count(n));
+        match self.place(n)? {
+            Place::First(k) => self.first.put(k, contents),
+            Place::Second(k) => self.second.put(k, contents),
         }
-        if n % 2 == 0 {
-            from_part(self.first.put(n / 2, contents), n)
-        } else {
-            from_part(self.second.put(n / 2, contents), n)
-        }
+        .map_err(|fault| fault.renumbered(n))
     }
 }

@@ -1,9 +1,9 @@
--- A call's answer as one number.
-use Rattle.std.specs.Prelude.{ℕ, Ok, Err, Result}
-use Rattle.faults.specs.Faults.{number_of}
+-- How a call went, whatever it answers.
+use Rattle.std.specs.Prelude.{Ok, Err, Result}
 use Rattle.faults.specs.declared.Fault.{Fault}
+use Rattle.faults.specs.declared.Question.{Question}
 
--- The number of a refusal, and 0 for what was accepted.
-abbrev pub number_in : {T : Type 0} → Result T Fault → ℕ
-number_in (Ok x) = 0
-number_in (Err f) = number_of f.question
+-- Accepted, or refused by a question.
+abbrev pub outcome_of : {T : Type 0} → Result T Fault → Result (Unit {0}) Question
+outcome_of (Ok x) = Ok tt
+outcome_of (Err f) = Err f.question

@@ -1,85 +1,101 @@
 // Counting the cases of a test program: how many were tried, and which went wrong.
 #![tactic(auto)]
 
-ghost use Rattle.std.specs.Prelude.{◌≡◌, IfOk, ◌==◌};
-ghost use Rattle.tally.specs.Answers.{number_in};
-ghost use Rattle.tally.specs.Counts.{one_more, unless_same};
+ghost use Rattle.std.specs.Prelude.{◌≡◌, ◌≢◌, true, is_ok, OnOk, ◌==◌, ◌&&◌};
+ghost use Rattle.tally.specs.Answers.{outcome_of};
+ghost use Rattle.tally.specs.Counts.{one_more, unless};
 
-use faults::Fault;
+use anyhow::ensure;
+use faults::{Fault, Question};
+use std::alloc::Global;
+use std::fmt::Debug;
 use std::io;
 
-// A case that went wrong: what came, and what the rules give.
-#[derive(Clone, Copy)]
-struct Wrong {
-    name: &'static str,
-    came: usize,
-    wanted: usize,
-}
-
+// The cases since the last report, and whether all that were reported went right.
 #[derive(Drop)]
 pub struct Tally {
+    alloc: Global,
     tried: usize,
     wrong: usize,
-    first: Option<Wrong>,
+    first: Option<String>,
+    right: bool,
 }
 
-// The number of a refusal, and 0 for what was accepted.
-pub fn number_in<T: Drop>(answer: Result<T, Fault>) -> u8
-    ensures { result ≡ number_in answer }
+// How a call went: accepted, or refused by a question.
+pub type Outcome = Result<(), Question>;
+
+// An answer without its value, and a refusal by its question alone.
+pub fn outcome<T: Drop>(answer: Result<T, Fault>) -> Outcome
+    ensures { result ≡ outcome_of answer }
 {
-    match answer {
-        Ok(_) => 0,
-        Err(fault) => fault.question.number(),
-    }
+    answer.map(|_| ()).map_err(|fault| fault.question)
 }
 
 impl Tally {
-    pub fn new() -> Tally
+    pub fn new(alloc: Global) -> Tally
         ensures tried { result.tried ≡ 0 }
         ensures wrong { result.wrong ≡ 0 }
+        ensures right { result.right ≡ true }
     {
         Tally {
+            alloc,
             tried: 0,
             wrong: 0,
             first: None,
+            right: true,
         }
     }
 
     // One case: what came, and what the rules give.
-    pub fn expect(&mut self, name: &'static str, came: usize, wanted: usize)
+    pub fn expect<T: PartialEq + Debug + Drop>(&mut self, name: &str, came: T, wanted: T)
         ensures tried { self.new.tried ≡ one_more self.old.tried }
-        ensures wrong { self.new.wrong ≡ unless_same came wanted self.old.wrong }
+        ensures wrong { self.new.wrong ≡ unless (T.eq came wanted) self.old.wrong }
+        ensures right { self.new.right ≡ self.old.right }
     {
         self.tried = self.tried.saturating_add(1);
         if came != wanted {
             self.wrong = self.wrong.saturating_add(1);
             if self.first.is_none() {
-                self.first = Some(Wrong { name, came, wanted });
+                self.first = format!(in self.alloc;
+                    "{name}: {came:?} came, the rules give {wanted:?}"
+                ).ok();
             }
         }
     }
 
-    // One case of a call by the number of its refusal, 0 where it is accepted.
-    pub fn answers<T: Drop>(&mut self, name: &'static str, answer: Result<T, Fault>, wanted: u8)
+    // One case of a call, by its outcome.
+    pub fn answers<T: Drop>(&mut self, name: &str, answer: Result<T, Fault>, wanted: Outcome)
         ensures tried { self.new.tried ≡ one_more self.old.tried }
-        ensures wrong { self.new.wrong ≡ unless_same (number_in answer) wanted self.old.wrong }
+        ensures passed { outcome_of answer ≡ wanted → self.new.wrong ≡ self.old.wrong }
+        ensures failed { outcome_of answer ≢ wanted → self.new.wrong ≡ one_more self.old.wrong }
+        ensures right { self.new.right ≡ self.old.right }
     {
-        self.expect(name, number_in(answer) as usize, wanted as usize);
+        self.expect(name, outcome(answer), wanted);
     }
 
-    // Shows what came of the cases since the last report, and answers whether all went right.
-    pub fn report(&mut self, rt: &HostRuntime, name: &str) -> io::Result<bool>
-        ensures { IfOk result (λ right. right ≡ (self.old.wrong == 0)) }
+    // Shows what came of the cases since the last report.
+    pub fn report(&mut self, rt: &impl Print, name: &str) -> io::Result<()>
+        ensures right { OnOk result (self.new.right ≡ (self.old.right && (self.old.wrong == 0))) }
+        ensures tried { OnOk result (self.new.tried ≡ 0) }
+        ensures wrong { OnOk result (self.new.wrong ≡ 0) }
     {
         let tried = self.tried;
         let wrong = self.wrong;
         println!(rt; "{name}: {tried} cases, {wrong} wrong")?;
-        if let Some(Wrong { name, came, wanted }) = self.first {
-            println!(rt; "  first {name}: {came} came, the rules give {wanted}")?;
+        if let Some(first) = self.first.take() {
+            println!(rt; "  first {first}")?;
         }
         self.tried = 0;
         self.wrong = 0;
-        self.first = None;
-        Ok(wrong == 0)
+        self.right &= wrong == 0;
+        Ok(())
+    }
+
+    // A test program's result.
+    pub fn verdict(&self) -> anyhow::Result<()>
+        ensures { is_ok result ≡ self.now.right }
+    {
+        ensure!(self.right, "some cases went wrong");
+        Ok(())
     }
 }

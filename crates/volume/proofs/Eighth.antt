@@ -22,21 +22,21 @@ module _ (v : List Block) (isize entries : ℕ) (d : Entries) (m : InodeMap) (is
   rest = every (entry_count v) (well_numbered v (isize_in v) (directory_of v)) && every_inode (entered (directory_of v) (entry_count v)) v (isize_in v)
 
   names_are : true ≡ every (entry_count v) (well_named (directory_of v))
-  names_are = named ∙ ap (λ e. every entries (well_named e)) d-is ∙ ap (λ n. every n (well_named (directory_of v))) entries-is
+  names_are = cc
 
   s8-is : s8 v ≡ rest
   s8-is = ap (λ b. b && rest) (sym names_are)
 
   numbers_are : every entries (numbered_by m.allocated (16 * isize) d) ≡ every (entry_count v) (well_numbered v (isize_in v) (directory_of v))
   numbers_are =
-      numbered_is v isize m.allocated d entries right ∙ ap (λ k. every entries (well_numbered v k d)) isize-is ∙ ap (λ e. every entries (well_numbered v (isize_in v) e)) d-is ∙ ap (λ n. every n (well_numbered v (isize_in v) (directory_of v))) entries-is
+      numbered_is v isize m.allocated d entries right ∙ (cc)
 
   -- some entry is not well numbered
   pub eighth_stray : false ≡ every entries (numbered_by m.allocated (16 * isize) d) → false ≡ s8 v
-  eighth_stray stray = sym (s8-is ∙ ap (λ b. b && every_inode (entered (directory_of v) (entry_count v)) v (isize_in v)) (sym (stray ∙ numbers_are)))
+  eighth_stray stray = cc (s8-is, numbers_are)
 
   -- all are: what is left is whether each inode has its entry
   pub eighth_last : true ≡ every entries (numbered_by m.allocated (16 * isize) d) → every_inode (entered d entries) v isize ≡ s8 v
   eighth_last fine =
       ap (λ k. every_inode (entered d entries) v k) isize-is ∙ ap (λ e. every_inode (entered e entries) v (isize_in v)) d-is ∙ ap (λ n. every_inode (entered (directory_of v) n) v (isize_in v)) entries-is ∙
-      sym (s8-is ∙ ap (λ b. b && every_inode (entered (directory_of v) (entry_count v)) v (isize_in v)) (sym (fine ∙ numbers_are)))
+      (cc (s8-is, numbers_are))

@@ -1,6 +1,7 @@
 -- Counts that come to one: exactly one thing was counted.
 use Rattle.std.proofs.Common.{◌≡◌, ℕ, zero, suc, ◌+◌, ◌<◌, false, cond, eqb, List, [], ◌∷◌, length, get_or, sym, refl, ap, ◌∙◌, ⊎_elim, arith}
 use Rattle.std.proofs.lemmas.Bool.{cases_Bool, cases_eq, eq-eqb, eqb-true, true≢false}
+use Rattle.std.proofs.lemmas.Bool.Decides.{nat_tests}
 use Rattle.volume.specs.Numbers.{occurrences, total}
 
 -- a sum of nothing
@@ -20,18 +21,18 @@ total-one f (suc n) e =
     let below = total-one f n (omega arith) in
     (below.0, omega (arith, below.1), below.2, λ k lt other. ⊎_elim (λ last. ap f last ∙ none) (λ before. below.3 k (omega arith) other) (cases_eq k n)))
     (λ some.
-    let here : f n ≡ 1 = positive (f n) (total n f) e some in
+    let here : f n ≡ 1 = omega arith in
     (n, omega arith, here, λ k lt other. total_nothing f n (omega arith) k (omega arith)))
     (cases_eq (f n) 0)
-  where
-    positive : (a b : ℕ) → a + b ≡ 1 → (a ≡ 0 → ⊥) → a ≡ 1
-    positive a b sum some = ⊎_elim (λ none. absurd (some none)) (λ other. omega arith) (cases_eq a 0)
 
 module _ (n : ℕ) where
+  counted_here : (x rest : ℕ) → x ≡ n → cond (eqb x n) 1 0 + rest ≡ 0 → ⊥
+  counted_here x rest is e = grind (arith, nat_tests)
+
   -- a number that does not stand in a list
   pub stands-nowhere : (xs : List ℕ) → occurrences n xs ≡ 0 → (j : ℕ) → j < length xs → get_or xs j 0 ≡ n → ⊥
   stands-nowhere [] e j lt is = omega arith
-  stands-nowhere (x ∷ xs) e zero lt is = let one : ◌≡◌ {A = ℕ} (cond (eqb x n) 1 0) 1 = ap (λ b. cond b 1 0) (eq-eqb x n is) in omega arith
+  stands-nowhere (x ∷ xs) e zero lt is = counted_here x (occurrences n xs) is e
   stands-nowhere (x ∷ xs) e (suc j) lt is = stands-nowhere xs (omega arith) j (omega arith) is
 
   -- a number that stands there once

@@ -1,8 +1,8 @@
 -- Laws of the free list as the superblock holds it.
-use Rattle.std.proofs.Common.{◌≡◌, ℕ, ◌+◌, ◌-◌, ◌*◌, ◌<◌, ◌≤◌, Bool, true, false, ◌&&◌, eqb, leb, List, length, get_or, take, drop, sym, ap, ◌∙◌, arith}
+use Rattle.std.proofs.Common.{◌≡◌, ℕ, ◌+◌, ◌-◌, ◌*◌, ◌<◌, ◌≤◌, true, ◌&&◌, eqb, leb, List, length, get_or, take, drop, sym, ap, ◌∙◌, arith}
 use Rattle.std.proofs.lemmas.List.FromFn.{length-map-range_with_len, get_or-map-range_with_len}
 use Rattle.std.proofs.lemmas.List.{ext_get_or, get_or-take, get_or-drop, length-take, length-drop}
-use Rattle.std.proofs.lemmas.Bool.{and_from, and_left, eq-eqb, ne_eqb, le-leb}
+use Rattle.std.proofs.lemmas.Bool.{and_from, le-leb}
 use Rattle.store.specs.Stores.{Block}
 use Rattle.volume.specs.Numbers.{all_data, different}
 use Rattle.volume.specs.Rules.{good_free}
@@ -34,33 +34,10 @@ module _ (b : Block) where
       let within : j < nfree - 1 = omega arith in
       get_or-take (nfree - 1) (drop 1 (words_at 100 b 6)) j 0 within ∙ get_or-drop 1 (words_at 100 b 6) j 0 ∙ place_is (1 + j) (omega arith) ∙ sym (get_or-free_list j (omega arith)))
 
-module _ (b : Block) (count nfree isize : ℕ) (places : List ℕ) (counts : nfree ≡ nfree_of b) (inodes : isize ≡ isize_of b) (read : places ≡ words_at 100 b 6) (least : 1 ≤ nfree) (most : nfree ≤ 100) where
-  named : take (nfree - 1) (drop 1 places) ≡ free_list b
-  named = ap (λ ps. take (nfree - 1) (drop 1 ps)) read ∙ named-is b nfree counts most
-
-  in_range : (leb 1 (nfree_of b) && leb (nfree_of b) 100) ≡ true
-  in_range = and_from _ _ (le-leb 1 (nfree_of b) (omega arith)) (le-leb (nfree_of b) 100 (omega arith))
-
-  rest : good_free b count ≡ (eqb (free_at b 0) 0 && (all_data (isize_of b) count (free_list b) && different (free_list b)))
-  rest = ap (λ t. t && (eqb (free_at b 0) 0 && (all_data (isize_of b) count (free_list b) && different (free_list b)))) in_range
-
-  -- the first place holds another number than 0
-  pub free_first : (get_or places 0 0 ≡ 0 → ⊥) → false ≡ good_free b count
-  free_first other =
-      sym (rest ∙ and_left (eqb (free_at b 0) 0) _ (ne_eqb (free_at b 0) 0 (λ e. other (ap (λ ps. get_or ps 0 0) read ∙ place_is b 0 (omega arith) ∙ e))))
-
-  module _ (zero : get_or places 0 0 ≡ 0) where
-    rest_zero : good_free b count ≡ (all_data (isize_of b) count (free_list b) && different (free_list b))
-    rest_zero =
-        rest ∙ ap (λ t. t && (all_data (isize_of b) count (free_list b) && different (free_list b))) (eq-eqb (free_at b 0) 0 (sym (ap (λ ps. get_or ps 0 0) read ∙ place_is b 0 (omega arith)) ∙ zero))
-
-    data_is : all_data isize count (take (nfree - 1) (drop 1 places)) ≡ all_data (isize_of b) count (free_list b)
-    data_is = ap (λ k. all_data k count (take (nfree - 1) (drop 1 places))) inodes ∙ ap (all_data (isize_of b) count) named
-
-    -- some other place holds no data block
-    pub free_stray : false ≡ all_data isize count (take (nfree - 1) (drop 1 places)) → false ≡ good_free b count
-    free_stray stray = sym (rest_zero ∙ and_left _ (different (free_list b)) (sym (stray ∙ data_is)))
-
-    -- all do: what is left is whether they are different
-    pub free_last : (r : Bool) → true ≡ all_data isize count (take (nfree - 1) (drop 1 places)) → r ≡ different (take (nfree - 1) (drop 1 places)) → r ≡ good_free b count
-    free_last r fine is = is ∙ ap different named ∙ sym (rest_zero ∙ ap (λ t. t && different (free_list b)) (sym (fine ∙ data_is)))
+-- the second rule, as the code asks it of the places that it has read
+pub good_free-read : (b : Block) (count nfree isize : ℕ) (places : List ℕ) → nfree ≡ nfree_of b → isize ≡ isize_of b → places ≡ words_at 100 b 6 → 1 ≤ nfree → nfree ≤ 100 → good_free b count ≡ (eqb (get_or places 0 0) 0 && (all_data isize count (take (nfree - 1) (drop 1 places)) && different (take (nfree - 1) (drop 1 places))))
+good_free-read b count nfree isize places counts inodes read least most =
+    let named : take (nfree - 1) (drop 1 places) ≡ free_list b = ap (λ ps. take (nfree - 1) (drop 1 ps)) read ∙ named-is b nfree counts most in
+    let first : get_or places 0 0 ≡ free_at b 0 = ap (λ ps. get_or ps 0 0) read ∙ place_is b 0 (omega arith) in
+    let in_range : (leb 1 (nfree_of b) && leb (nfree_of b) 100) ≡ true = and_from _ _ (le-leb 1 (nfree_of b) (omega arith)) (le-leb (nfree_of b) 100 (omega arith)) in
+    cc

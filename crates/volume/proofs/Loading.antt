@@ -1,5 +1,5 @@
 -- One block of a file more in a buffer.
-use Rattle.std.proofs.Common.{◌≡◌, ℕ, ◌+◌, ◌-◌, ◌*◌, ◌<◌, ◌≤◌, List, [], ◌++◌, map, length, get_or, take, drop, replicate, sym, ap, ◌∙◌, ⊎_elim, arith}
+use Rattle.std.proofs.Common.{◌≡◌, ℕ, ◌+◌, ◌-◌, ◌*◌, ◌/◌, ◌<◌, ◌≤◌, List, [], ◌++◌, map, length, get_or, take, drop, replicate, sym, ap, ◌∙◌, ⊎_elim, arith}
 use borrow.Rule.Slice.PartMut.{put_mid}
 use Rattle.std.proofs.lemmas.List.{flat_map_more, take_more, get_or-take, get_or-drop, get_or_past, get_or-replicate, length-take, length-replicate}
 use Rattle.std.proofs.lemmas.Slice.{take-put_mid, drop-put_mid}
@@ -9,6 +9,10 @@ use Rattle.store.proofs.Cuts.{length-put_mid}
 use Rattle.store.specs.Stores.{Block}
 use Rattle.layout.specs.Entries.{Entries, entry_at}
 use Rattle.volume.specs.Files.{file_blocks}
+use Rattle.layout.specs.Inodes.{blocks_for, inode_of}
+use Rattle.layout.specs.declared.inode.Inode.{Inode}
+use Rattle.volume.specs.Openings.{LoadedDirectory}
+use Rattle.volume.specs.declared.directory.Directory.{Directory}
 use Rattle.layout.specs.Words.{byte_at, bytes_at}
 
 get_or-zeros : (n i : ℕ) → ◌≡◌ {A = ℕ} (get_or (replicate n 0) i 0) 0
@@ -59,3 +63,15 @@ module _ (v : List Block) (addresses : List ℕ) where
   loaded_entries contents n long few front rest =
       let bytes : byte_at contents ≡ byte_at (file_blocks v addresses n) = λ t i. loaded_byte contents n long few front rest i t in
       ap entries_by bytes
+
+-- the same of the directory of a volume, from its inode
+pub loaded_directory : (v : List Block) (root : Inode) (d : Directory) (n : ℕ) → root ≡ inode_of v 1 → n ≡ blocks_for root.size → n ≤ 8 → length d.bytes ≡ 4096 → d.len ≡ root.size / 16 → take (512 * n) d.bytes ≡ file_blocks v root.addresses n → drop (512 * n) d.bytes ≡ drop (512 * n) (replicate 4096 0) → LoadedDirectory v d
+loaded_directory v root d n first counts few long len front rest =
+    let i = inode_of v 1 in
+    let loaded = loaded_entries v root.addresses d.bytes n long few front rest in
+    record {
+      entries = cc;
+      directory = cc;
+      front = cc;
+      long = long;
+    }

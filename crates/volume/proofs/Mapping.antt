@@ -1,7 +1,8 @@
 -- What a map of the allocated inodes says, and what the entries numbered by it are.
-use Rattle.std.proofs.Common.{◌≡◌, ℕ, zero, suc, ◌*◌, ◌<◌, ◌≤◌, Bool, false, not, ◌&&◌, ◌||◌, leb, List, length, get_or, set, sym, refl, ap, ◌∙◌, ⊎_elim, arith}
+use Rattle.std.proofs.Common.{◌≡◌, ℕ, zero, suc, ◌*◌, ◌<◌, ◌≤◌, Bool, false, not, ◌&&◌, ◌||◌, leb, List, length, get_or, refl, ap, ◌∙◌, ⊎_elim, arith}
 use Rattle.std.proofs.lemmas.List.{length-set, get_or-set_same, get_or-set_other}
-use Rattle.std.proofs.lemmas.Bool.{and_parts, leb-true, cases_eq, cases_Bool}
+use Rattle.std.proofs.lemmas.Bool.{cases_eq}
+use Rattle.std.proofs.lemmas.Bool.Decides.{nat_tests}
 use Rattle.store.specs.Stores.{Block}
 use Rattle.volume.proofs.Everys.{every-same}
 use Rattle.layout.specs.Entries.{Entries}
@@ -26,7 +27,7 @@ module _ (v : List Block) (t : InodeMap) where
       let before = (visited map_after v m t).allocated in
       let long = length-mapped m in
       ⊎_elim
-      (λ same. ap (λ i. get_or (set before (suc m) (allocated (inode_of v (suc m)))) i false) same ∙ get_or-set_same before (suc m) (allocated (inode_of v (suc m))) false (omega arith) ∙ ap (λ i. allocated (inode_of v i)) (sym same))
+      (λ (same : k ≡ suc m). rw same (get_or-set_same before (suc m) (allocated (inode_of v (suc m))) false (omega arith)))
       (λ other. get_or-set_other before (suc m) k (allocated (inode_of v (suc m))) false other ∙ mapped_at m k least (omega arith) (omega arith))
       (cases_eq k (suc m))
 
@@ -37,12 +38,4 @@ numbered_is v isize map d n right =
     (λ e lt. ap (λ b. not (used d e) || b) (agree (d e).inode))
   where
     agree : (x : ℕ) → ((leb 2 x && leb x (16 * isize)) && get_or map x false) ≡ ((leb 2 x && leb x (16 * isize)) && allocated (inode_of v x))
-    agree x =
-        ⊎_elim
-        (λ in_range.
-        let both = and_parts (leb 2 x) (leb x (16 * isize)) in_range in
-        let low = leb-true 2 x both.0 in
-        let high = leb-true x (16 * isize) both.1 in
-        ap (λ b. (leb 2 x && leb x (16 * isize)) && b) (right x (omega arith) high))
-        (λ outside. ap (λ r. r && get_or map x false) outside ∙ sym (ap (λ r. r && allocated (inode_of v x)) outside))
-        (cases_Bool (leb 2 x && leb x (16 * isize)))
+    agree x = let at = right x in grind (arith, nat_tests)

@@ -1,15 +1,18 @@
 -- What follows from a rule that holds.
-use Rattle.std.proofs.Common.{◌≡◌, ℕ, suc, ◌+◌, ◌*◌, ◌/◌, ◌%◌, ◌^◌, ◌<◌, ◌≤◌, true, not, ◌&&◌, ◌||◌, eqb, ltb, leb, List, length, get_or, sym, ap, ◌∙◌, arith}
+use Rattle.std.proofs.Common.{◌≡◌, ℕ, suc, ◌+◌, ◌*◌, ◌/◌, ◌^◌, ◌<◌, ◌≤◌, true, not, ◌&&◌, ◌||◌, eqb, ltb, leb, List, length, get_or, sym, ap, ◌∙◌, arith}
 use lib.Bits.{bit_and}
 use Rattle.std.proofs.lemmas.Nat.{and_shr}
-use Rattle.std.proofs.lemmas.Bool.{and_parts, leb-true, ltb-true, lt-ltb, eqb-true, ne_eqb, not_from_false, cond-true}
+use Rattle.std.proofs.lemmas.Bool.{and_parts, ltb-true, lt-ltb, eqb-true, ne_eqb, not_from_false, cond-true}
+use Rattle.std.proofs.lemmas.Bool.Decides.{nat_tests}
+use Rattle.std.proofs.lemmas.List.Sums.{AllPass-from_list_all}
 use Rattle.store.specs.Stores.{Block}
 use Rattle.volume.proofs.Everys.{every-at}
 use Rattle.volume.specs.Every.{every}
 use Rattle.layout.specs.Inodes.{allocated, blocks_for, inode_of}
 use Rattle.volume.specs.Rules.{good_sizes, good_free, is_directory, good_address, good_addresses, super_of, isize_in, s1, s3, s5}
 use Rattle.layout.specs.declared.inode.Inode.{Inode}
-use Rattle.layout.specs.Superblocks.{isize_of, fsize_of, nfree_of}
+use Rattle.layout.specs.Superblocks.{isize_of, nfree_of, is_data}
+use Rattle.volume.specs.Numbers.{all_data}
 
 pub record Sizes (b : Block) (count : ℕ) : Type 0 where
   pub most : count ≤ 100
@@ -17,17 +20,15 @@ pub record Sizes (b : Block) (count : ℕ) : Type 0 where
   pub room : isize_of b + 3 ≤ count
 
 pub sizes_from : (b : Block) (count : ℕ) → good_sizes b count ≡ true → Sizes b count
-sizes_from b count holds =
-    let both = and_parts (leb count 100 && leb 1 (isize_of b)) (leb (isize_of b + 3) count && eqb (fsize_of b) count) holds in
-    let front = and_parts (leb count 100) (leb 1 (isize_of b)) both.0 in
-    let back = and_parts (leb (isize_of b + 3) count) (eqb (fsize_of b) count) both.1 in
-    record { most = leb-true count 100 front.0; some_inodes = leb-true 1 (isize_of b) front.1; room = leb-true (isize_of b + 3) count back.0 }
+sizes_from b count holds = record { most = grind (arith, nat_tests); some_inodes = grind (arith, nat_tests); room = grind (arith, nat_tests) }
 
 -- the free list has 1 to 100 places in use
 pub nfree_from : (b : Block) (count : ℕ) → good_free b count ≡ true → (1 ≤ nfree_of b) × (nfree_of b ≤ 100)
-nfree_from b count holds =
-    let range = and_parts (leb 1 (nfree_of b)) (leb (nfree_of b) 100) (and_parts (leb 1 (nfree_of b) && leb (nfree_of b) 100) _ holds).0 in
-    (leb-true 1 (nfree_of b) range.0, leb-true (nfree_of b) 100 range.1)
+nfree_from b count holds = (grind (arith, nat_tests), grind (arith, nat_tests))
+
+-- each number of a list of data blocks is one
+pub all_data-at : (isize count : ℕ) (xs : List ℕ) (j : ℕ) → j < length xs → all_data isize count xs ≡ true → is_data isize count (get_or xs j 0) ≡ true
+all_data-at isize count xs j within all = AllPass-from_list_all (is_data isize count) xs all j 0 within
 
 -- a directory's mode has the bit of an allocated inode
 pub directory-allocated : (i : Inode) → is_directory i ≡ true → allocated i ≡ true
@@ -38,9 +39,7 @@ directory-allocated i holds =
     not_from_false (eqb (bit_and i.mode 0x8000) 0) (ne_eqb (bit_and i.mode 0x8000) 0 (λ none. let z : ◌≡◌ {A = ℕ} 0 1 = ap (λ m. m / 2 ^ 15) (sym none) ∙ bit in omega arith))
 
 pub directory_size : (i : Inode) → is_directory i ≡ true → (32 ≤ i.size) × (i.size ≤ 4096)
-directory_size i holds =
-    let size = and_parts (leb 32 i.size) (leb i.size 4096) (and_parts (leb 32 i.size && leb i.size 4096) _ (and_parts _ ((leb 32 i.size && leb i.size 4096) && eqb (i.size % 16) 0) holds).1).0 in
-    (leb-true 32 i.size size.0, leb-true i.size 4096 size.1)
+directory_size i holds = (grind (arith, nat_tests), grind (arith, nat_tests))
 
 -- the blocks of the directory are in the volume
 pub directory_there : (v : List Block) → s1 v ≡ true → s3 v ≡ true → s5 v ≡ true → (j : ℕ) → j < blocks_for (inode_of v 1).size → get_or (inode_of v 1).addresses j 0 < length v

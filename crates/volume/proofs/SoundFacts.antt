@@ -2,7 +2,8 @@
 use Rattle.std.proofs.Common.{◌≡◌, ℕ, zero, suc, ◌+◌, ◌*◌, ◌<◌, ◌≤◌, Bool, true, false, cond, not, ◌&&◌, ◌||◌, eqb, leb, List, length, get_or, drop, None, Option, sym, refl, ap, ◌∙◌, ⊎_elim, arith}
 use Rattle.std.proofs.lemmas.List.{length-map, get_or-map}
 use Rattle.std.proofs.lemmas.Slice.Eq.{bytes_eq-Decides}
-use Rattle.std.proofs.lemmas.Bool.{and_parts, and_from, cases_eq, cases_lt, eq-eqb, ne_eqb, eqb-true, leb-true, ltb-true, cond-true, true≢false}
+use Rattle.std.proofs.lemmas.Bool.{and_parts, and_from, cases_eq, cases_lt, eq-eqb, ne_eqb, eqb-true, cond-true, true≢false}
+use Rattle.std.proofs.lemmas.Bool.Decides.{nat_tests}
 use Rattle.std.specs.Str.{bytes_eq}
 use Rattle.store.specs.Stores.{Block}
 use Rattle.layout.proofs.Fields.{same_field}
@@ -13,8 +14,9 @@ use Rattle.layout.specs.Superblocks.{free_list, is_data}
 use Rattle.layout.specs.declared.inode.Inode.{Inode}
 use Rattle.volume.proofs.Everys.{every-at}
 use Rattle.volume.proofs.Exactly.{total_nothing, total-one, stands-nowhere, stands-once}
+use Rattle.volume.proofs.Totals.{count_by-range}
 use Rattle.volume.proofs.UsedEntries.{used-at, used-once}
-use Rattle.volume.specs.Directories.{used, same_name, new_name, well_named, well_numbered, entries_for, entered}
+use Rattle.volume.specs.Directories.{used, same_name, new_name, well_named, well_numbered, numbered, entries_for, entered}
 use Rattle.volume.specs.Every.{every}
 use Rattle.volume.specs.Numbers.{occurrences, total}
 use Rattle.volume.specs.Rules.{every_inode, super_of, isize_in, directory_of, entry_count, is_plain_file, free_or_plain, held_by, standings, s1, s2, s3, s4, s5, s6, s7, s8}
@@ -37,7 +39,7 @@ pub record RulesHold (v : List Block) : Type 0 where
 
 not_broken : (holds : Bool) (rule : Rule) (later : Option Rule) → unless holds rule later ≡ None → (holds ≡ true) × (later ≡ None)
 not_broken true rule later e = (refl, e)
-not_broken false rule later e = let z : ◌≡◌ {A = ℕ} 0 1 = cc in absurd (omega arith)
+not_broken false rule later e = absurd (cc)
 
 pub rules_hold : (v : List Block) → first_broken v ≡ None → RulesHold v
 rules_hold v none =
@@ -53,7 +55,11 @@ rules_hold v none =
 
 -- what is asked of a case that is not excepted
 asked_of : (excepted asked : Bool) → (excepted || asked) ≡ true → excepted ≡ false → asked ≡ true
-asked_of excepted asked holds not_so = sym (ap (λ b. b || asked) not_so) ∙ holds
+asked_of excepted asked holds not_so = cc
+
+-- of a case that is not excepted two things are asked
+both_of : (case first second : Bool) → (not case || (first && second)) ≡ true → case ≡ true → (first ≡ true) × (second ≡ true)
+both_of case first second holds is = (grind arith, grind arith)
 
 -- every inode that is in the list passes
 pub inode_passes : (p : ℕ → Inode → Bool) (v : List Block) (isize : ℕ) → every_inode p v isize ≡ true → (i : ℕ) → 1 ≤ i → i ≤ 16 * isize → p i (inode_of v i) ≡ true
@@ -62,21 +68,18 @@ inode_passes p v isize all (suc j) least most = every-at (λ k. p (suc k) (inode
 
 -- one of two summands is all of a sum of one
 other_none : (a b : ℕ) → a + b ≡ 1 → (a ≡ 0 → ⊥) → (a ≡ 1) × (b ≡ 0)
-other_none a b sum some = ⊎_elim (λ none. absurd (some none)) (λ other. (omega arith, omega arith)) (cases_eq a 0)
+other_none a b sum some = (omega arith, omega arith)
 
 -- a block is held once by an inode that is allocated and has it once among its addresses
 held_one : (a : Bool) (x : ℕ) → cond a x 0 ≡ 1 → (a ≡ true) × (x ≡ 1)
-held_one true x e = (refl, e)
-held_one false x e = absurd (omega arith)
+held_one a x e = (grind arith, grind arith)
 
 -- 1 is counted for what passes a test
 counted-one : (b : Bool) → ◌≡◌ {A = ℕ} (cond b 1 0) 1 → b ≡ true
-counted-one true e = refl
-counted-one false e = absurd (omega arith)
+counted-one b e = grind arith
 
 counted_none : (b : Bool) → ◌≡◌ {A = ℕ} (cond b 1 0) 0 → b ≡ true → ⊥
-counted_none true e passes = omega arith
-counted_none false e passes = true≢false (sym passes)
+counted_none b e passes = grind arith
 
 module _ (v : List Block) (rules : RulesHold v) where
   module _ (n : ℕ) where
@@ -112,9 +115,9 @@ module _ (v : List Block) (rules : RulesHold v) where
 
     stands-somewhere : is_data (isize_in v) (length v) n ≡ true → ExactlyOne (Stands v n)
     stands-somewhere is-data =
-        let within = ltb-true n (length v) (and_parts (leb (isize_in v + 2) n) _ is-data).1 in
+        let within : n < length v = grind (arith, nat_tests) in
         let here = every-at (λ m. not (is_data (isize_in v) (length v) m) || eqb (standings v m) 1) (length v) n within rules.blocks_once in
-        let once = eqb-true (standings v n) 1 (asked_of (not (is_data (isize_in v) (length v) n)) (eqb (standings v n) 1) here (ap not is-data)) in
+        let once = eqb-true (standings v n) 1 (cc) in
         let frees = occurrences n (free_list (super_of v)) in
         let helds = total (16 * isize_in v) (λ j. held_by n (inode_of v (suc j))) in
         ⊎_elim
@@ -127,7 +130,7 @@ module _ (v : List Block) (rules : RulesHold v) where
   well-named e is =
       let names = (and_parts (every (entry_count v) (well_named (directory_of v))) _ rules.entries).0 in
       let here = every-at (well_named (directory_of v)) (entry_count v) e is.0 names in
-      and_parts (lawful_field (directory_of v e).name) (new_name (directory_of v) e) (asked_of (not (used (directory_of v) e)) (lawful_field (directory_of v e).name && new_name (directory_of v) e) here (ap not is.1))
+      both_of (used (directory_of v) e) (lawful_field (directory_of v e).name) (new_name (directory_of v) e) here is.1
 
   numbered_well : (e : ℕ) → Used v e → (2 ≤ (directory_of v e).inode) × Allocated v (directory_of v e).inode
   numbered_well e is =
@@ -136,10 +139,7 @@ module _ (v : List Block) (rules : RulesHold v) where
       let numbers = (and_parts (every (entry_count v) (well_numbered v (isize_in v) (directory_of v))) _ rest).0 in
       let here = every-at (well_numbered v (isize_in v) (directory_of v)) (entry_count v) e is.0 numbers in
       let passes = asked_of (not (used (directory_of v) e)) ((leb 2 i && leb i (16 * isize_in v)) && allocated (inode_of v i)) here (ap not is.1) in
-      let both = and_parts (leb 2 i && leb i (16 * isize_in v)) (allocated (inode_of v i)) passes in
-      let range = and_parts (leb 2 i) (leb i (16 * isize_in v)) both.0 in
-      let least = leb-true 2 i range.0 in
-      (least, (omega arith, leb-true i (16 * isize_in v) range.1, both.1))
+      (grind (arith, nat_tests), (grind (arith, nat_tests), grind (arith, nat_tests), grind (arith, nat_tests)))
 
   -- an earlier used entry has another name
   not_before : (e k : ℕ) → k < e → Used v e → Used v k → (directory_of v k).name ≡ (directory_of v e).name → ⊥
@@ -165,10 +165,10 @@ module _ (v : List Block) (rules : RulesHold v) where
       let rest = (and_parts (every n (well_named d)) _ rules.entries).1 in
       let all = (and_parts (every n (well_numbered v (isize_in v) d)) _ rest).1 in
       let here = inode_passes (entered d n) v (isize_in v) all i is.0 is.1 in
-      let later : (eqb i 1 || not (allocated (inode_of v i))) ≡ false = ap (λ b. b || not (allocated (inode_of v i))) (ne_eqb i 1 (λ e. omega arith)) ∙ ap not is.2 in
-      let once = eqb-true (entries_for d n i) 1 (asked_of (eqb i 1 || not (allocated (inode_of v i))) (eqb (entries_for d n i) 1) here later) in
-      let at = total-one f n once in
-      let passes = and_parts (used d at.0) (eqb (d at.0).inode i) (counted-one _ at.2) in (
+      let other = ne_eqb i 1 (λ e. omega arith) in
+      let once : entries_for d n i ≡ 1 = eqb-true (entries_for d n i) 1 (cc (here, other, is.2)) in
+      let at = total-one f n (sym (count_by-range (numbered d i) n) ∙ once) in
+      let passes = and_parts (used d at.0) (eqb (d at.0).inode i) (counted-one (used d at.0 && eqb (d at.0).inode i) at.2) in (
         at.0,
         ((at.1, passes.0), eqb-true (d at.0).inode i passes.1),
         λ k names.
@@ -181,8 +181,8 @@ module _ (v : List Block) (rules : RulesHold v) where
   plain_file : (i : ℕ) → 2 ≤ i → Allocated v i → is_plain_file (inode_of v i) ≡ true
   plain_file i least is =
       let here = inode_passes free_or_plain v (isize_in v) rules.inodes i is.0 is.1 in
-      let later = asked_of (eqb i 1) (not (allocated (inode_of v i)) || is_plain_file (inode_of v i)) here (ne_eqb i 1 (λ e. omega arith)) in
-      asked_of (not (allocated (inode_of v i))) (is_plain_file (inode_of v i)) later (ap not is.2)
+      let other = ne_eqb i 1 (λ e. omega arith) in
+      cc (here, other, is.2)
 
   -- file a is that of the a-th used entry
   file_is : (a : ℕ) → a < length (files_of v) → (a < length (used_among (directory_of v) (entry_count v))) × (file_number v a ≡ file_at v (get_or (used_among (directory_of v) (entry_count v)) a 0))

@@ -1,14 +1,15 @@
 -- What the counts of a tally say.
 use Rattle.std.proofs.Common.{◌≡◌, ℕ, zero, suc, ◌+◌, ◌*◌, ◌<◌, ◌≤◌, min, Bool, true, false, cond, not, ◌||◌, eqb, List, [], ◌∷◌, length, get_or, replicate, sym, refl, ap, ◌∙◌, ⊎_elim, arith}
 use Rattle.std.proofs.lemmas.List.{length-set, get_or-set_same, get_or-set_other, length-replicate, get_or-replicate}
-use Rattle.std.proofs.lemmas.Bool.{eq-eqb, ne_eqb, cases_eq}
+use Rattle.std.proofs.lemmas.Bool.{cases_eq}
+use Rattle.std.proofs.lemmas.Bool.Decides.{nat_tests}
 use Rattle.store.specs.Stores.{Block}
 use Rattle.volume.proofs.Everys.{every-same}
 use Rattle.volume.specs.Every.{every}
 use Rattle.layout.specs.Inodes.{allocated, inode_of}
 use Rattle.volume.specs.Numbers.{occurrences, total}
 use Rattle.volume.specs.Rules.{held_by, super_of, isize_in, standings, s6}
-use Rattle.layout.specs.Superblocks.{free_list, isize_of, is_data}
+use Rattle.layout.specs.Superblocks.{free_list, is_data}
 use Rattle.volume.specs.Tallies.{bumped, tallied, tally_after, once_in}
 use Rattle.volume.specs.Visits.{visited}
 use Rattle.volume.specs.declared.tally.Tally.{Tally}
@@ -21,11 +22,11 @@ module _ (n : ℕ) where
   get_or-bumped : (counts : List ℕ) (x : ℕ) → n < length counts → get_or counts n 0 ≤ 255 → get_or (bumped counts x) n 0 ≡ min 255 (get_or counts n 0 + cond (eqb x n) 1 0)
   get_or-bumped counts x within most =
       ⊎_elim
-      (λ same.
-      let one : ◌≡◌ {A = ℕ} (cond (eqb x n) 1 0) 1 = ap (λ b. cond b 1 0) (eq-eqb x n (sym same)) in
+      (λ (same : n ≡ x).
+      let one : ◌≡◌ {A = ℕ} (cond (eqb x n) 1 0) 1 = grind (arith, nat_tests) in
       ap (λ i. get_or (bumped counts x) i 0) same ∙ get_or-set_same counts x (min 255 (get_or counts x 0 + 1)) 0 (rw (sym same) within) ∙ ap (λ i. min 255 (get_or counts i 0 + 1)) (sym same) ∙ ap (λ k. min 255 (get_or counts n 0 + k)) (sym one))
-      (λ other.
-      let none : ◌≡◌ {A = ℕ} (cond (eqb x n) 1 0) 0 = ap (λ b. cond b 1 0) (ne_eqb x n (λ e. other (sym e))) in
+      (λ (other : n ≡ x → ⊥).
+      let none : ◌≡◌ {A = ℕ} (cond (eqb x n) 1 0) 0 = grind (arith, nat_tests) in
       get_or-set_other counts x n (min 255 (get_or counts x 0 + 1)) 0 other ∙ omega arith)
       (cases_eq n x)
 
@@ -58,7 +59,7 @@ module _ (n : ℕ) where
 
 -- exactly one is exactly one, also where it is counted up to 255 only
 one-is : (x y : ℕ) → x ≡ min 255 y → eqb x 1 ≡ eqb y 1
-one-is x y e = ⊎_elim (λ one. eq-eqb x 1 (omega arith) ∙ sym (eq-eqb y 1 one)) (λ other. ne_eqb x 1 (λ f. other (omega arith)) ∙ sym (ne_eqb y 1 other)) (cases_eq y 1)
+one-is x y e = grind (arith, nat_tests)
 
 module _ (v : List Block) (few : length v ≤ 100) where
   abbrev begun : Tally
@@ -86,9 +87,8 @@ module _ (v : List Block) (few : length v ≤ 100) where
       (λ n lt. ap (λ t. not (is_data (isize_in v) (length v) n) || t) (one-is (get_or ended.counts n 0) (standings v n) (counted n lt)))
 
   -- the same, of values that the code has
-  pub stands-once_by : (b : Block) (isize count : ℕ) (counts : List ℕ) (t : Tally) (r : Bool) → b ≡ super_of v → isize ≡ isize_of b → count ≡ length v → counts ≡ tallied (replicate 100 0) (free_list b) → t ≡ visited tally_after v (16 * isize) (record { counts = counts }) → r ≡ every count (once_in t.counts isize count) → r ≡ s6 v
-  stands-once_by b isize count counts t r b-is isize-is count-is counts-is t-is r-is =
-      let size : isize ≡ isize_in v = isize-is ∙ ap isize_of b-is in
+  pub stands-once_by : (b : Block) (isize isize' count : ℕ) (counts : List ℕ) (t : Tally) (r : Bool) → b ≡ super_of v → isize ≡ isize_in v → isize' ≡ isize_in v → count ≡ length v → counts ≡ tallied (replicate 100 0) (free_list b) → t ≡ visited tally_after v (16 * isize) (record { counts = counts }) → r ≡ every count (once_in t.counts isize' count) → r ≡ s6 v
+  stands-once_by b isize isize' count counts t r b-is isize-is isize'-is count-is counts-is t-is r-is =
       let start : counts ≡ begun.counts = counts-is ∙ ap (λ x. tallied (replicate 100 0) (free_list x)) b-is in
-      let last : t ≡ ended = t-is ∙ ap (λ k. visited tally_after v (16 * k) (record { counts = counts })) size ∙ ap (λ cs. visited tally_after v (16 * isize_in v) (record { counts = cs })) start in
-      r-is ∙ ap (λ u. every count (once_in u.counts isize count)) last ∙ ap (λ k. every count (once_in ended.counts k count)) size ∙ ap (λ m. every m (once_in ended.counts (isize_in v) m)) count-is ∙ stands-once
+      let last : t ≡ ended = t-is ∙ ap (λ k. visited tally_after v (16 * k) (record { counts = counts })) isize-is ∙ ap (λ cs. visited tally_after v (16 * isize_in v) (record { counts = cs })) start in
+      r-is ∙ rw (last, isize'-is, count-is) stands-once

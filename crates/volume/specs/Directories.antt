@@ -1,5 +1,6 @@
 -- The entries of a directory, against the rules of a sound volume.
-use Rattle.std.specs.Prelude.{ℕ, ◌*◌, Bool, cond, not, ◌&&◌, ◌||◌, List, ◌==◌, nat_le}
+use Rattle.std.specs.Prelude.{ℕ, ◌*◌, Bool, not, ◌&&◌, ◌||◌, List, ◌==◌, count_by, nat_le}
+use Rattle.std.specs.List.{range_with_len}
 use Rattle.std.specs.Str.{bytes_eq}
 use Rattle.store.specs.Stores.{Block}
 use Rattle.layout.specs.Entries.{Entries, is_entry, dot, dots}
@@ -7,7 +8,6 @@ use Rattle.layout.specs.Inodes.{allocated, inode_of}
 use Rattle.layout.specs.Names.{lawful_field}
 use Rattle.layout.specs.declared.inode.Inode.{Inode}
 use Rattle.volume.specs.Every.{every}
-use Rattle.volume.specs.Numbers.{total}
 
 -- The first two entries name the directory itself.
 abbrev pub good_dots : Entries → Bool
@@ -34,9 +34,13 @@ abbrev pub well_numbered : List Block → (isize : ℕ) → Entries → ℕ → 
 well_numbered v isize d e =
     not (used d e) || ((nat_le 2 (d e).inode && nat_le (d e).inode (16 * isize)) && allocated (inode_of v (d e).inode))
 
+-- Entry e is used and has the number i.
+abbrev pub numbered : Entries → (i e : ℕ) → Bool
+numbered d i e = used d e && (d e).inode == i
+
 -- How many of the first n entries are used and have the number i.
 abbrev pub entries_for : Entries → (n i : ℕ) → ℕ
-entries_for d n i = total n (λ e. cond (used d e && (d e).inode == i) 1 0)
+entries_for d n i = count_by (numbered d i) (range_with_len 0 n)
 
 -- Inode i, if it is allocated and not the first, has exactly one such entry.
 abbrev pub entered : Entries → (n i : ℕ) → Inode → Bool

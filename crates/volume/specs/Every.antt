@@ -1,7 +1,7 @@
 -- Tests of all the numbers below a bound.
-use Rattle.std.specs.Prelude.{ℕ, zero, suc, Bool, true, ◌&&◌}
+use Rattle.std.specs.Prelude.{ℕ, Bool}
+use Rattle.std.specs.List.{list_all, range_with_len}
 
 -- The test passes at each number below n.
-unfoldable pub every : ℕ → (ℕ → Bool) → Bool
-every zero p = true
-every (suc n) p = p n && every n p
+abbrev pub every : ℕ → (ℕ → Bool) → Bool
+every n p = list_all p (range_with_len 0 n)

@@ -1,11 +1,12 @@
 -- Lists of block numbers.
-use Rattle.std.specs.Prelude.{ℕ, zero, suc, ◌+◌, Bool, cond, not, List, [], ◌∷◌, length, ◌==◌, slice_index}
+use Rattle.std.specs.Prelude.{ℕ, zero, suc, ◌+◌, Bool, cond, not, List, [], ◌∷◌, length, ◌==◌, slice_index, take}
+use Rattle.std.specs.List.{list_all, list_any}
 use Rattle.volume.specs.Every.{every}
 use Rattle.layout.specs.Superblocks.{is_data}
 
 -- The number at place j stands at no earlier place.
 abbrev pub is_new : List ℕ → ℕ → Bool
-is_new xs j = every j (λ i. not (slice_index xs i == slice_index xs j))
+is_new xs j = not (list_any (λ x. x == slice_index xs j) (take j xs))
 
 -- No number stands twice.
 abbrev pub different : List ℕ → Bool
@@ -13,7 +14,7 @@ different xs = every (length xs) (is_new xs)
 
 -- Each is a data block of a volume with so many blocks of inodes and so many in all.
 abbrev pub all_data : (isize count : ℕ) → List ℕ → Bool
-all_data isize count xs = every (length xs) (λ j. is_data isize count (slice_index xs j))
+all_data isize count xs = list_all (is_data isize count) xs
 
 -- How often n stands in a list.
 abbrev pub occurrences : ℕ → List ℕ → ℕ

@@ -1,5 +1,5 @@
 -- Counts of how often each block is named, as the code keeps them.
-use Rattle.std.specs.Prelude.{ℕ, ◌+◌, min, Bool, cond, not, ◌||◌, List, [], ◌∷◌, ◌==◌, slice_index, slice_set}
+use Rattle.std.specs.Prelude.{ℕ, ◌+◌, min, Bool, cond, not, ◌||◌, List, ◌==◌, fold, slice_index, slice_set}
 use Rattle.layout.specs.Inodes.{allocated}
 use Rattle.layout.specs.Superblocks.{is_data}
 use Rattle.layout.specs.declared.inode.Inode.{Inode}
@@ -11,8 +11,7 @@ bumped counts x = slice_set counts x (min 255 (slice_index counts x + 1))
 
 -- Counts with one more for each of the numbers.
 abbrev pub tallied : List ℕ → List ℕ → List ℕ
-tallied counts [] = counts
-tallied counts (x ∷ xs) = tallied (bumped counts x) xs
+tallied counts xs = fold bumped counts xs
 
 -- A tally after one inode more.
 abbrev pub tally_after : Tally → ℕ → Inode → Tally

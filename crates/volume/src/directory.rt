@@ -1,11 +1,11 @@
 // The entries of a directory, against the rules of a sound volume.
-ghost use Rattle.std.specs.Prelude.{◌≡◌, ◌<◌, ◌≤◌, ◌&&◌, if◌then◌else◌, ◌==◌};
+ghost use Rattle.std.specs.Prelude.{◌≡◌, ◌<◌, ◌≤◌};
 ghost use Rattle.layout.specs.Entries.{entry_at};
-ghost use Rattle.volume.specs.Directories.{good_dots, used, same_name, new_name, well_named, entries_for};
+ghost use Rattle.volume.specs.Directories.{good_dots, used, same_name, new_name, well_named, numbered, entries_for};
 ghost use Rattle.volume.specs.Every.{every};
 ghost use Rattle.volume.specs.Maps.{numbered_by};
 
-use layout::entry::{Entry, same_bytes};
+use layout::entry::Entry;
 use layout::name::is_lawful_field;
 
 // The name fields "." and "..".
@@ -13,128 +13,102 @@ const DOT: [u8; 14] = *b".\0\0\0\0\0\0\0\0\0\0\0\0\0";
 
 const DOTS: [u8; 14] = *b"..\0\0\0\0\0\0\0\0\0\0\0\0";
 
-// Whether the first two entries are "." and "..", both for inode 1.
-pub(crate) fn dots_are_good(directory: &[u8; 4096]) -> bool
-    ensures { result ≡ good_dots (entry_at directory.now) }
-{
-    let first = Entry::decode(directory, 0);
-    let second = Entry::decode(directory, 1);
-    first.is_for(1, &DOT) && second.is_for(1, &DOTS)
+// The blocks of a directory with zeros behind them, and how many entries it has.
+#[derive(Clone, Copy)]
+pub struct Directory {
+    pub bytes: [u8; 4096],
+    pub len: usize,
+    pub ghost few: { len ≤ 256 },
 }
 
-// Whether entry e is a later one that is not empty.
-pub fn is_used(directory: &[u8; 4096], e: usize) -> bool
-    requires { e < 256 }
-    ensures { result ≡ used (entry_at directory.now) e }
-{
-    2 <= e && Entry::decode(directory, e).inode != 0
-}
-
-// Whether entry k is used and has the name of entry e.
-fn has_name_of(directory: &[u8; 4096], e: usize, k: usize) -> bool
-    requires e_bound { e < 256 }
-    requires k_bound { k < 256 }
-    ensures { result ≡ same_name (entry_at directory.now) e k }
-{
-    let earlier = Entry::decode(directory, k);
-    let entry = Entry::decode(directory, e);
-    is_used(directory, k) && same_bytes(&earlier.name, &entry.name)
-}
-
-// Whether no earlier used entry has the name of entry e.
-fn is_new_name(directory: &[u8; 4096], e: usize) -> bool
-    requires { e < 256 }
-    ensures { result ≡ new_name (entry_at directory.now) e }
-{
-    for k in 0..e {
-        if has_name_of(directory, e, k) {
-            return false;
-        }
+impl Directory {
+    // Entry e, which may stand behind those that the directory has.
+    pub fn entry(&self, e: usize) -> Entry
+        requires { e < 256 }
+        ensures { result ≡ entry_at self.now.bytes e }
+    {
+        Entry::decode(&self.bytes, e)
     }
-    true
-}
 
-// Whether entry e, if it is used, has a lawful name that no earlier one has.
-fn is_well_named(directory: &[u8; 4096], e: usize) -> bool
-    requires { e < 256 }
-    ensures { result ≡ well_named (entry_at directory.now) e }
-{
-    if !is_used(directory, e) {
-        return true;
+    // Whether the first two entries are "." and "..", both for inode 1.
+    pub(crate) fn has_good_dots(&self) -> bool
+        ensures { result ≡ good_dots (entry_at self.now.bytes) }
+    {
+        let first = self.entry(0);
+        let second = self.entry(1);
+        first.is_for(1, &DOT) && second.is_for(1, &DOTS)
     }
-    is_lawful_field(&Entry::decode(directory, e).name) && is_new_name(directory, e)
-}
 
-// Whether each entry is well named.
-pub(crate) fn are_well_named(directory: &[u8; 4096], entries: usize) -> bool
-    requires { entries ≤ 256 }
-    ensures { result ≡ every entries (well_named (entry_at directory.now)) }
-{
-    for e in 0..entries {
-        if !is_well_named(directory, e) {
-            return false;
-        }
+    // Whether entry e is a later one that is not empty.
+    pub fn is_used(&self, e: usize) -> bool
+        requires { e < 256 }
+        ensures { result ≡ used (entry_at self.now.bytes) e }
+    {
+        2 <= e && self.entry(e).inode != 0
     }
-    true
-}
 
-// Whether entry e, if it is used, has a number from 2 to the limit that the map has as allocated.
-fn is_numbered_by(map: &[bool; 1553], limit: usize, directory: &[u8; 4096], e: usize) -> bool
-    requires limit_bound { limit < 1553 }
-    requires e_bound { e < 256 }
-    ensures { result ≡ numbered_by map.now limit (entry_at directory.now) e }
-{
-    if !is_used(directory, e) {
-        return true;
+    // Whether entry k is used and has the name of entry e.
+    fn has_name_of(&self, e: usize, k: usize) -> bool
+        requires e_bound { e < 256 }
+        requires k_bound { k < 256 }
+        ensures { result ≡ same_name (entry_at self.now.bytes) e k }
+    {
+        self.is_used(k) && self.entry(k).name == self.entry(e).name
     }
-    let number = Entry::decode(directory, e).inode as usize;
-    if number < 2 || number > limit {
-        return false;
-    }
-    map[number]
-}
 
-// Whether each entry is numbered so.
-pub(crate) fn are_numbered_by(
-    map: &[bool; 1553],
-    limit: usize,
-    directory: &[u8; 4096],
-    entries: usize,
-) -> bool
-    requires limit_bound { limit < 1553 }
-    requires entries_bound { entries ≤ 256 }
-    ensures { result ≡ every entries (numbered_by map.now limit (entry_at directory.now)) }
-{
-    for e in 0..entries {
-        if !is_numbered_by(map, limit, directory, e) {
-            return false;
-        }
+    // Whether no earlier used entry has the name of entry e.
+    fn is_new_name(&self, e: usize) -> bool
+        requires { e < 256 }
+        ensures { result ≡ new_name (entry_at self.now.bytes) e }
+    {
+        (0..e).all(|k| !self.has_name_of(e, k))
     }
-    true
-}
 
-// 1 where entry e is used and has the number i, else 0.
-fn entry_for(directory: &[u8; 4096], e: usize, i: usize) -> usize
-    requires { e < 256 }
-    ensures value { result ≡ (if used (entry_at directory.now) e && (entry_at directory.now e).inode == i then 1 else 0) }
-    ensures few { result ≤ 1 }
-{
-    let number = Entry::decode(directory, e).inode as usize;
-    if is_used(directory, e) && number == i {
-        1
-    } else {
-        0
+    // Whether entry e, if it is used, has a lawful name that no earlier one has.
+    fn is_well_named(&self, e: usize) -> bool
+        requires { e < 256 }
+        ensures { result ≡ well_named (entry_at self.now.bytes) e }
+    {
+        !self.is_used(e) || (is_lawful_field(&self.entry(e).name) && self.is_new_name(e))
     }
-}
 
-// How many of the entries are used and have the number i.
-pub(crate) fn entries_for(directory: &[u8; 4096], entries: usize, i: usize) -> usize
-    requires { entries ≤ 256 }
-    ensures { result ≡ entries_for (entry_at directory.now) entries i }
-{
-    let mut found = 0;
-    for e in 0..entries {
-        found += entry_for(directory, e, i);
+    // Whether each entry is well named.
+    pub(crate) fn is_all_well_named(&self) -> bool
+        ensures { result ≡ every self.now.len (well_named (entry_at self.now.bytes)) }
+    {
+        (0..self.len).all(|e| self.is_well_named(e))
     }
-    found
+
+    // Whether entry e, if it is used, has a number from 2 to the limit that the map has as allocated.
+    fn is_numbered_by(&self, map: &[bool; 1553], limit: usize, e: usize) -> bool
+        requires limit_bound { limit < 1553 }
+        requires e_bound { e < 256 }
+        ensures { result ≡ numbered_by map.now limit (entry_at self.now.bytes) e }
+    {
+        let number = self.entry(e).inode as usize;
+        !self.is_used(e) || ((2..=limit).contains(&number) && map[number])
+    }
+
+    // Whether each entry is numbered so.
+    pub(crate) fn is_all_numbered_by(&self, map: &[bool; 1553], limit: usize) -> bool
+        requires { limit < 1553 }
+        ensures { result ≡ every self.now.len (numbered_by map.now limit (entry_at self.now.bytes)) }
+    {
+        (0..self.len).all(|e| self.is_numbered_by(map, limit, e))
+    }
+
+    // Whether entry e is used and has the number i.
+    fn is_numbered(&self, i: usize, e: usize) -> bool
+        requires { e < 256 }
+        ensures { result ≡ numbered (entry_at self.now.bytes) i e }
+    {
+        self.is_used(e) && self.entry(e).inode as usize == i
+    }
+
+    // How many of the entries are used and have the number i.
+    pub(crate) fn entries_for(&self, i: usize) -> usize
+        ensures { result ≡ entries_for (entry_at self.now.bytes) self.now.len i }
+    {
+        (0..self.len).filter(|e| self.is_numbered(i, *e)).count()
+    }
 }

@@ -1,17 +1,19 @@
 // Tests that each inode of a volume has to pass.
-ghost use Rattle.std.specs.Prelude.{◌≡◌, ℕ, ◌+◌, ◌<◌, ◌≤◌, Bool, true, length, is_ok, Ok};
-ghost use Rattle.store.specs.Stores.{all_live};
+ghost use Rattle.std.specs.Prelude.{◌≡◌, ℕ, ◌+◌, ◌<◌, ◌≤◌, Bool, length};
+ghost use Rattle.volume.specs.Every.{every};
 ghost use Rattle.volume.specs.Tests.{each_after};
 ghost use Rattle.volume.specs.Rules.{every_inode, free_or_plain, good_address, good_addresses};
 ghost use Rattle.layout.specs.declared.inode.Inode.{Inode};
 
 use crate::kinds::is_plain_file;
 use crate::visit::{Visitor, visit_inodes};
-use faults::Fault;
 use layout::inode::Inode;
-use layout::superblock::is_data;
+use layout::superblock::DataBlocks;
 use store::interface::Store;
+use store::liveness::Live;
 
+// A test is a type and no closure: its ghost member names the rule, so that what every inode passes is one equation. All that a closure
+// promises of a call is a relation, which each caller would have to tie to its rule.
 pub(crate) trait InodeTest {
     ghost passes: { Self → ℕ → Inode → Bool };
 
@@ -37,18 +39,17 @@ impl<T: InodeTest> Visitor for Each<T> {
 
 // Whether every inode of the volume passes.
 pub(crate) fn every_inode<S: Store, T: InodeTest + Drop>(
-    store: &S,
+    live: &Live<'_, S>,
     isize: usize,
     test: T,
-) -> Result<bool, Fault>
-    requires live { is_ok (all_live (S.Store.marks store.now)) ≡ true }
-    requires within { isize + 2 ≤ length (S.Store.blocks store.now) }
+) -> bool
+    requires within { isize + 2 ≤ length (S.Store.blocks live.now.store.now) }
     requires few { isize ≤ 4096 }
-    ensures { result ≡ Ok (every_inode (T.InodeTest.passes test) (S.Store.blocks store.now) isize) }
+    ensures { result ≡ every_inode (T.InodeTest.passes test) (S.Store.blocks live.now.store.now) isize }
 {
     let mut each = Each { test, passed: true };
-    visit_inodes(store, isize, &mut each)?;
-    Ok(each.passed)
+    visit_inodes(live, isize, &mut each);
+    each.passed
 }
 
 // The fourth rule: each inode but the first is free or a plain file.
@@ -63,39 +64,38 @@ impl InodeTest for FreeOrPlain {
     }
 }
 
-// The fifth rule, in a volume with so many blocks of inodes and so many in all: the addresses of an allocated inode
-// are data blocks as far as its size reaches, and 0 behind.
+// The fifth rule: the addresses of an allocated inode are data blocks as far as its size reaches, and 0 behind.
 #[derive(Clone, Copy)]
 pub(crate) struct Addressed {
-    pub(crate) isize: u16,
-    pub(crate) count: usize,
+    pub(crate) data: DataBlocks,
 }
 
 impl Addressed {
     fn is_good(&self, inode: &Inode, j: usize) -> bool
         requires { j < 8 }
-        ensures { result ≡ good_address self.now.isize self.now.count inode.now j }
+        ensures { result ≡ good_address self.now.data.isize self.now.data.count inode.now j }
     {
         let address = inode.addresses[j];
-        if j < (inode.size as usize + 511) / 512 {
-            return is_data(self.isize, self.count, address);
+        if j < inode.block_count() {
+            self.data.contains(address)
+        } else {
+            address == 0
         }
-        address == 0
+    }
+
+    // Whether the first n addresses are good.
+    fn are_good(&self, inode: &Inode, n: usize) -> bool
+        requires { n ≤ 8 }
+        ensures { result ≡ every n (good_address self.now.data.isize self.now.data.count inode.now) }
+    {
+        (0..n).all(|j| self.is_good(inode, j))
     }
 }
 
 impl InodeTest for Addressed {
-    ghost passes = { λ a _. good_addresses a.isize a.count };
+    ghost passes = { λ a _. good_addresses a.data.isize a.data.count };
 
     fn test(&self, _i: usize, inode: &Inode) -> bool {
-        if !inode.is_allocated() {
-            return true;
-        }
-        for j in 0..8 {
-            if !self.is_good(inode, j) {
-                return false;
-            }
-        }
-        true
+        !inode.is_allocated() || self.are_good(inode, 8)
     }
 }

@@ -10,8 +10,7 @@ pub(crate) fn is_directory(inode: &Inode) -> bool
 {
     inode.mode & 0xf000 == 0xc000
         && inode.links == 2
-        && 32 <= inode.size
-        && inode.size <= 4096
+        && (32..=4096).contains(&inode.size)
         && inode.size % 16 == 0
 }
 

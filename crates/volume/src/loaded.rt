@@ -1,4 +1,5 @@
-// A volume that was found sound, with what the check has read of it.
+// What the check of a volume has read of it.
+use crate::directory::Directory;
 use layout::inode::Inode;
 use store::interface::Block;
 
@@ -7,8 +8,5 @@ pub struct Volume {
     pub superblock: Block,
     // Inode 1, the directory.
     pub root: Inode,
-    // The blocks of the directory, with zeros behind them.
-    pub directory: [u8; 4096],
-    // How many entries the directory has.
-    pub entries: usize,
+    pub directory: Directory,
 }

@@ -24,14 +24,16 @@ impl Rule {
     {
         self as u8
     }
+}
 
-    // Question 17's refusal of a volume that breaks this rule first.
-    pub fn refusal(self) -> Fault
-        ensures { result ≡ unsound (rule_number self) }
-    {
+// Question 17's refusal of a volume that breaks this rule first.
+impl From<Rule> for Fault {
+    ghost from_gives = { λ rule fault. fault ≡ unsound (rule_number rule) };
+
+    fn from(rule: Rule) -> Fault {
         Fault {
-            rule: self.number(),
-            ..Fault::bare(Question::VolumeSound)
+            rule: rule.number(),
+            ..Fault::from(Question::VolumeSound)
         }
     }
 }

@@ -2,12 +2,10 @@
 ghost use Rattle.std.specs.Prelude.{◌≡◌, ◌<◌, ◌≤◌};
 ghost use Rattle.volume.specs.Every.{every};
 ghost use Rattle.layout.specs.Superblocks.{nfree_of, free_list};
-ghost use Rattle.volume.specs.Tallies.{bumped, tallied, tally_after, once_in};
 
 use crate::visit::Visitor;
 use layout::inode::Inode;
-use layout::superblock::{is_data, nfree_of};
-use layout::words::read_words;
+use layout::superblock::{DataBlocks, free_places, nfree_of};
 use store::interface::Block;
 
 // For each block, how often it is named, up to 255.
@@ -16,65 +14,64 @@ pub(crate) struct Tally {
     pub(crate) counts: [u8; 100],
 }
 
-// Counts one more for a number; one past the end is not counted.
-fn add_one(counts: &mut [u8; 100], number: u16)
-    ensures { counts.new ≡ bumped counts.old number }
-{
-    let n = number as usize;
-    if n >= counts.len() {
-        return;
-    }
-    counts[n] = counts[n].saturating_add(1);
-}
+impl Tally {
+    ghost use Rattle.volume.specs.Tallies.{bumped, tallied, once_in};
 
-// Counts each of the numbers.
-pub(crate) fn add_all(counts: &mut [u8; 100], numbers: &[u16])
-    ensures { counts.new ≡ tallied counts.old numbers.now }
-{
-    for number in numbers {
-        add_one(counts, *number);
+    // Counts one more for a number; one past the end is not counted.
+    fn add(&mut self, number: u16)
+        ensures { self.new.counts ≡ bumped self.old.counts number }
+    {
+        // By index, since nothing is known of the elements once a borrow by get_mut is over.
+        let n = number as usize;
+        if n < self.counts.len() {
+            self.counts[n] = self.counts[n].saturating_add(1);
+        }
+    }
+
+    // Counts each of the numbers.
+    fn add_all(&mut self, numbers: &[u16])
+        ensures { self.new.counts ≡ tallied self.old.counts numbers.now }
+    {
+        for number in numbers {
+            self.add(*number);
+        }
+    }
+
+    // Counts the numbers of the free list, which has 1 to 100 places in use.
+    pub(crate) fn add_free(&mut self, superblock: &Block)
+        requires least { 1 ≤ nfree_of superblock.now }
+        requires most { nfree_of superblock.now ≤ 100 }
+        ensures { self.new.counts ≡ tallied self.old.counts (free_list superblock.now) }
+    {
+        let nfree = nfree_of(superblock) as usize;
+        self.add_all(&free_places(superblock)[1..nfree]);
+    }
+
+    // Whether block n has been counted exactly once, if it is a data block.
+    fn is_once(&self, data_blocks: DataBlocks, n: usize) -> bool
+        requires { n < 100 }
+        ensures { result ≡ once_in self.now.counts data_blocks.isize data_blocks.count n }
+    {
+        !data_blocks.contains(n as u16) || self.counts[n] == 1
+    }
+
+    // Whether each data block has been counted exactly once.
+    pub(crate) fn is_each_once(&self, data_blocks: DataBlocks) -> bool
+        requires { data_blocks.count ≤ 100 }
+        ensures { result ≡ every data_blocks.count (once_in self.now.counts data_blocks.isize data_blocks.count) }
+    {
+        (0..data_blocks.count).all(|n| self.is_once(data_blocks, n))
     }
 }
 
 impl Visitor for Tally {
+    ghost use Rattle.volume.specs.Tallies.{tally_after};
+
     ghost after = { tally_after };
 
     fn visit(&mut self, _i: usize, inode: &Inode) {
         if inode.is_allocated() {
-            add_all(&mut self.counts, &inode.addresses);
+            self.add_all(&inode.addresses);
         }
     }
-}
-
-// Counts the numbers of the free list, which has 1 to 100 places in use.
-pub(crate) fn add_free(counts: &mut [u8; 100], superblock: &Block)
-    requires least { 1 ≤ nfree_of superblock.now }
-    requires most { nfree_of superblock.now ≤ 100 }
-    ensures { counts.new ≡ tallied counts.old (free_list superblock.now) }
-{
-    let nfree = nfree_of(superblock) as usize;
-    let mut places = [0; 100];
-    read_words(superblock, 6, &mut places);
-    add_all(counts, &places[1..nfree]);
-}
-
-// Whether block n has been counted exactly once, if it is a data block.
-fn is_once(counts: &[u8; 100], isize: u16, count: usize, n: usize) -> bool
-    requires { n < 100 }
-    ensures { result ≡ once_in counts.now isize count n }
-{
-    !is_data(isize, count, n as u16) || counts[n] == 1
-}
-
-// Whether each data block has been counted exactly once.
-pub(crate) fn each_once(counts: &[u8; 100], isize: u16, count: usize) -> bool
-    requires { count ≤ 100 }
-    ensures { result ≡ every count (once_in counts.now isize count) }
-{
-    for n in 0..count {
-        if !is_once(counts, isize, count, n) {
-            return false;
-        }
-    }
-    true
 }

@@ -1,9 +1,7 @@
 // A sound volume laid out by hand, and changes to it byte by byte.
-use faults::Fault;
 use std::alloc::{AllocError, Global};
-use volume::rule::Rule;
 
-// A byte of a block, and the value that it gets.
+// A block, a byte of it, and the value that this gets: a tuple, so that each of the many rows stands on one line.
 pub type Patch = (usize, usize, u8);
 
 // Ten blocks, two of them of inodes, so that inode 17 begins block 3. The directory in block 4 has "bolt", inode 2, with 600 bytes in blocks 5
@@ -91,13 +89,4 @@ pub fn sound(heap: Global) -> Result<Vec<u8>, AllocError> {
     let mut memory = zeros(heap, 10)?;
     patch(memory.as_mut_slice(), &SOUND);
     Ok(memory)
-}
-
-// The rule that a check names, 0 for a sound volume, 99 where the check was refused.
-pub fn rule_in(answer: Result<Option<Rule>, Fault>) -> usize {
-    match answer {
-        Ok(None) => 0,
-        Ok(Some(rule)) => rule.number() as usize,
-        Err(_) => 99,
-    }
 }

@@ -1,22 +1,15 @@
 // Sound and broken volumes, each compared with the rule that it breaks first.
 #![tactic(auto)]
 
-use anyhow::anyhow;
+use tally::Tally;
 
 mod base;
 mod broken;
 mod sizes;
 
 fn main(rt: HostRuntime) -> anyhow::Result<()> {
-    run(&rt)
-}
-
-fn run(rt: &HostRuntime) -> anyhow::Result<()> {
-    let mut right = broken::all(rt)?;
-    right &= sizes::all(rt)?;
-    if right {
-        Ok(())
-    } else {
-        Err(anyhow!("some cases went wrong"))
-    }
+    let mut tally = Tally::new(rt.alloc());
+    broken::all(&rt, &mut tally)?;
+    sizes::all(&rt, &mut tally)?;
+    tally.verdict()
 }

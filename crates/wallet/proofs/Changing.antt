@@ -1,8 +1,8 @@
 -- Blocks of covers changed by an exclusive or, and what the levels show then.
-use Rattle.std.proofs.Common.{◌≡◌, ℕ, ◌<◌, ◌≤◌, true, false, cond, ◌⊎◌, List, [], length, get_or, set, sym, refl, ap, ◌∙◌, ap₂, ⊎_elim, arith}
-use lib.Bits.{bit_xor, xor_assoc, xor_self, xor_zero_r}
+use Rattle.std.proofs.lemmas.Grind.{common_steps}
+use Rattle.std.proofs.Common.{◌≡◌, ℕ, ◌<◌, ◌≤◌, true, false, cond, ◌⊎◌, List, [], length, get_or, set, sym, refl, ap, ◌∙◌, arith}
+use lib.Bits.{bit_xor, xor_assoc, xor_zero_r}
 use Rattle.std.proofs.lemmas.List.{get_or_past, get_or-set_same, get_or-set_other}
-use Rattle.std.proofs.lemmas.Bool.{cases_Bool, cases_lt, cond-true, cond_both}
 use Rattle.keys.specs.Field.{Field}
 use Rattle.keys.specs.Vectors.{dot}
 use Rattle.store.specs.Stores.{Block}
@@ -44,6 +44,10 @@ module _ (c : Covers) (change : ℕ → ℕ → ℕ → ℕ) (bs : List Block) w
   unfolding changed
   changed-is xs size at = each-is (length bs) changed_block xs [] size at
 
+  -- a list is known by its bytes
+  pub changed_by-bytes : (xs : List Block) → length xs ≡ length bs → Whole xs → ((n p : ℕ) → n < length bs → p < 512 → byte_at xs n p ≡ bit_xor (byte_at bs n p) (change_at c change n p)) → xs ≡ changed c change bs
+  changed_by-bytes xs size whole same = changed-is xs size (λ n lt. each-is 512 (λ p. bit_xor (byte_at bs n p) (change_at c change n p)) (get_or xs n []) 0 (whole n (omega (arith, size))) (λ p lp. same n p lt lp))
+
   pub whole-changed : Whole (changed c change bs)
   whole-changed n lt = ap length (get_or-changed n (omega (arith, length-changed))) ∙ length-each 512 (λ p. bit_xor (byte_at bs n p) (change_at c change n p))
 
@@ -53,35 +57,21 @@ Agree c g h = (i b p : ℕ) → i < c.count → b < c.blocks → p < 512 → g i
 
 module _ (c : Covers) (g h : ℕ → ℕ → ℕ → ℕ) where
   change_at-same : Agree c g h → (n p : ℕ) → p < 512 → change_at c g n p ≡ change_at c h n p
-  change_at-same same n p in' =
-      ⊎_elim
-      (λ covered. ap (λ x. cond x (g (cover_at c n) (block_at c n) p) 0) covered ∙ same (cover_at c n) (block_at c n) p (cover_at-below c n covered) (block_at-below c n covered) in' ∙ ap (λ x. cond x (h (cover_at c n) (block_at c n) p) 0) (sym covered))
-      (λ outside. ap (λ x. cond x (g (cover_at c n) (block_at c n) p) 0) outside ∙ ap (λ x. cond x (h (cover_at c n) (block_at c n) p) 0) (sym outside))
-      (cases_Bool (is_covered c n))
+  change_at-same same n p in' = grind (arith, common_steps, block_at-below, cover_at-below)
 
   pub changed-same : Agree c g h → (bs : List Block) → changed c g bs ≡ changed c h bs
-  changed-same same bs =
-      changed-is c h bs (changed c g bs) (length-changed c g bs)
-      (λ n lt. get_or-changed c g bs n lt ∙ each_same 512 (λ p. bit_xor (byte_at bs n p) (change_at c g n p)) (λ p. bit_xor (byte_at bs n p) (change_at c h n p)) 0 (λ p in'. ap (bit_xor (byte_at bs n p)) (change_at-same same n p in')))
+  changed-same same bs = changed-is c h bs (changed c g bs) (length-changed c g bs) (λ n lt. grind (arith, common_steps, get_or-changed, each_same, change_at-same))
 
   change_at-both : (n p : ℕ) → bit_xor (change_at c g n p) (change_at c h n p) ≡ change_at c (λ i b q. bit_xor (g i b q) (h i b q)) n p
   change_at-both n p = elim (is_covered c n) as (λ x. bit_xor (cond x (g (cover_at c n) (block_at c n) p) 0) (cond x (h (cover_at c n) (block_at c n) p) 0) ≡ cond x (bit_xor (g (cover_at c n) (block_at c n) p) (h (cover_at c n) (block_at c n) p)) 0) [ true ↦ refl | false ↦ refl ]
 
   -- one change after another
   pub changed-changed : (bs : List Block) → changed c h (changed c g bs) ≡ changed c (λ i b p. bit_xor (g i b p) (h i b p)) bs
-  changed-changed bs =
-      changed-is c (λ i b p. bit_xor (g i b p) (h i b p)) bs (changed c h (changed c g bs)) (length-changed c h (changed c g bs) ∙ length-changed c g bs)
-      (λ n lt.
-      get_or-changed c h (changed c g bs) n (omega (arith, length-changed c g bs)) ∙
-      each_same 512 (λ p. bit_xor (byte_at (changed c g bs) n p) (change_at c h n p)) (λ p. bit_xor (byte_at bs n p) (change_at c (λ i b q. bit_xor (g i b q) (h i b q)) n p)) 0
-      (λ p in'. ap (λ x. bit_xor x (change_at c h n p)) (byte_at-changed c g bs n p lt in') ∙ xor_assoc (byte_at bs n p) (change_at c g n p) (change_at c h n p) ∙ ap (bit_xor (byte_at bs n p)) (change_at-both n p)))
+  changed-changed bs = changed_by-bytes c (λ i b p. bit_xor (g i b p) (h i b p)) bs (changed c h (changed c g bs)) (length-changed c h (changed c g bs) ∙ length-changed c g bs) (whole-changed c h (changed c g bs)) (λ n p lt lp. grind (arith, common_steps, length-changed, byte_at-changed, xor_assoc, change_at-both))
 
 -- a change by 0 is none
 pub changed-none : (c : Covers) (bs : List Block) → Whole bs → changed c (λ i b p. 0) bs ≡ bs
-changed-none c bs whole =
-    sym (changed-is c (λ i b p. 0) bs bs refl
-    (λ n lt. each-is 512 (λ p. bit_xor (byte_at bs n p) (change_at c (λ i b q. 0) n p)) (get_or bs n []) 0 (whole n lt)
-    (λ p in'. sym (cond_both (is_covered c n) 0 0 (λ x. bit_xor (byte_at bs n p) x ≡ byte_at bs n p) (λ e. xor_zero_r (byte_at bs n p)) (λ e. xor_zero_r (byte_at bs n p))))))
+changed-none c bs whole = sym (changed_by-bytes c (λ i b p. 0) bs bs refl whole (λ n p lt lp. grind (arith, common_steps, xor_zero_r)))
 
 module _ {F : Type 0} (f : Field F) (c : Covers) where
   pub length-shown : (u : ℕ → F) (bs : List Block) → length (shown f c u bs) ≡ c.blocks
@@ -115,17 +105,7 @@ Reached c change bs = (i b p : ℕ) → i < c.count → b < c.blocks → p < 512
 
 module _ {F : Type 0} (f : Field F) (c : Covers) (change : ℕ → ℕ → ℕ → ℕ) (bs : List Block) (reached : Reached c change bs) where
   pub byte_at-place : (i b p : ℕ) → i < c.count → b < c.blocks → p < 512 → byte_at (changed c change bs) (place c i b) p ≡ bit_xor (byte_at bs (place c i b) p) (change i b p)
-  byte_at-place i b p li lb lp =
-      ⊎_elim (λ within. inside within)
-      (λ past. byte_at_past c change bs (place c i b) p past ∙ sym (ap (bit_xor (byte_at bs (place c i b) p)) (⊎_elim (λ within. absurd (omega arith)) (λ none. none) (reached i b p li lb lp)) ∙ xor_zero_r (byte_at bs (place c i b) p)))
-      (cases_lt (place c i b) (length bs))
-    where
-      inside : place c i b < length bs → byte_at (changed c change bs) (place c i b) p ≡ bit_xor (byte_at bs (place c i b) p) (change i b p)
-      inside within =
-          byte_at-changed c change bs (place c i b) p within lp ∙
-          ap (bit_xor (byte_at bs (place c i b) p))
-          (cond-true (is_covered c (place c i b)) (change (cover_at c (place c i b)) (block_at c (place c i b)) p) 0 (place-covered c i b lb li) ∙
-          ap₂ (λ x y. change x y p) (cover_at-place c i b lb) (block_at-place c i b lb))
+  byte_at-place i b p li lb lp = grind (arith, common_steps, byte_at-changed, byte_at_past, place-covered, cover_at-place, block_at-place, reached, xor_zero_r)
 
   -- a level shows the change, summed along its key
   pub shown_byte-changed : (v : ℕ → F) (b p : ℕ) → b < c.blocks → p < 512 → shown_byte f c v (changed c change bs) b p ≡ bit_xor (shown_byte f c v bs b p) (byte_sum f c.count v (λ i. change i b p))
@@ -147,21 +127,11 @@ module _ {F : Type 0} (f : Field F) (c : Covers) (u : ℕ → F) (new bs : List 
 
   -- the level itself shows the new contents
   pub shown-refilled : dot f c.count u u ≡ f.one → length new ≡ c.blocks → Whole new → shown f c u (refilled f c u new bs) ≡ new
-  shown-refilled own size whole =
-      shown-is f c u (refilled f c u new bs) new size whole
-      (λ b p lb lp.
-      shown_byte-refilled u b p lb lp ∙
-      ap (bit_xor (shown_byte f c u bs b p)) (ap (λ x. f.act x (bit_xor (shown_byte f c u bs b p) (byte_at new b p))) own ∙ f.act_one (bit_xor (shown_byte f c u bs b p) (byte_at new b p))) ∙
-      xor_again (shown_byte f c u bs b p) (byte_at new b p))
+  shown-refilled own size whole = grind (arith, common_steps, shown-is, shown_byte-refilled, xor_again)
 
   -- a level whose key has product 0 with this one's shows what it showed
   pub shown-spared : (v : ℕ → F) → dot f c.count v u ≡ f.zero → shown f c v (refilled f c u new bs) ≡ shown f c v bs
-  shown-spared v other =
-      shown-same f c v (refilled f c u new bs) bs
-      (λ b p lb lp.
-      shown_byte-refilled v b p lb lp ∙
-      ap (bit_xor (shown_byte f c v bs b p)) (ap (λ x. f.act x (bit_xor (shown_byte f c u bs b p) (byte_at new b p))) other ∙ f.act_zero (bit_xor (shown_byte f c u bs b p) (byte_at new b p))) ∙
-      xor_zero_r (shown_byte f c v bs b p))
+  shown-spared v other = grind (arith, common_steps, shown-same, shown_byte-refilled, xor_zero_r)
 
 -- New contents of one block only.
 module _ {F : Type 0} (f : Field F) (c : Covers) (u : ℕ → F) (bs : List Block) (b : ℕ) (contents : Block) (within : b < c.blocks) where
@@ -173,6 +143,4 @@ module _ {F : Type 0} (f : Field F) (c : Covers) (u : ℕ → F) (bs : List Bloc
 
   -- at other blocks old and new are the same, and nothing changes
   pub along-other : (i b' p : ℕ) → (b' ≡ b → ⊥) → b' < c.blocks → p < 512 → along f c u renewed bs i b' p ≡ 0
-  along-other i b' p other lb lp =
-      ap (λ x. f.act (u i) (bit_xor (shown_byte f c u bs b' p) x)) (ap (λ x. get_or x p 0) (get_or-set_other (shown f c u bs) b b' contents [] other) ∙ byte_at-shown f c u bs b' p lb lp) ∙
-      ap (f.act (u i)) (xor_self (shown_byte f c u bs b' p)) ∙ act_none f (u i)
+  along-other i b' p other lb lp = grind (arith, common_steps, act_none, byte_at-shown, get_or-set_other)

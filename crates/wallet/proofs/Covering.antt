@@ -1,10 +1,10 @@
 -- A cover in a key, and the place of its blocks.
-use Rattle.std.proofs.Common.{◌≡◌, ℕ, zero, suc, ◌/◌, ◌%◌, ◌^◌, Bool, true, false, cond, not, ◌&&◌, eqb, ltb, ◌⊎◌, List, length, get_or, is_ok, Ok, Err, Result, sym, refl, ap, ◌∙◌, inl, inr, ⊎_elim, one-add, arith}
+use Rattle.std.proofs.lemmas.Grind.{common_steps}
+use Rattle.std.proofs.Common.{◌≡◌, ℕ, zero, suc, ◌/◌, ◌%◌, ◌^◌, Bool, true, false, cond, not, ◌&&◌, eqb, ◌⊎◌, List, is_ok, Result, sym, refl, ap, ◌∙◌, inl, inr, ⊎_elim, one-add, arith}
 use Rattle.std.proofs.lemmas.Nat.{shr-shr}
-use Rattle.std.proofs.lemmas.Bool.{cond_both, true≢false}
+use Rattle.std.proofs.lemmas.Bool.{true≢false}
 use Rattle.keys.specs.Bits.{bits, entry}
 use Rattle.keys.specs.Field.{Field}
-use Rattle.faults.specs.Faults.{past_count}
 use Rattle.faults.specs.declared.Fault.{Fault}
 use Rattle.store.specs.Stores.{Mark, live, dead, judged, asked}
 use Rattle.wallet.specs.Levels.{in_key, cover_fine}
@@ -43,29 +43,11 @@ in_key-bits false = in_key-zero bits false refl
 -- what the store answers of a block comes up as a dead block of the level, whichever of its questions refused it
 placed-asked : (level i b : ℕ) (ms : List Mark) (n : ℕ) → placed_at level i b (asked ms n) ≡ judged b (cond (not (is_ok (asked ms n))) (dead level i) live)
 unfolding asked
-placed-asked level i b ms n =
-    cond_both (ltb n (length ms)) (judged n (get_or ms n live)) (Err (past_count n)) (λ r. placed_at level i b r ≡ judged b (cond (not (is_ok r)) (dead level i) live))
-    (λ within. by_mark (get_or ms n live))
-    (λ past. refl)
-  where
-    by_mark : (m : Mark) → placed_at level i b (judged n m) ≡ judged b (cond (not (is_ok (judged n m))) (dead level i) live)
-    by_mark live = refl
-    by_mark (dead l c) = refl
-
--- an answer that comes up accepted was accepted below
-pub ok-below : (level i b : ℕ) (r : Result (Unit {0}) Fault) → is_ok (placed_at level i b r) ≡ is_ok r
-ok-below level i b (Ok u) = refl
-ok-below level i b (Err f) = refl
+placed-asked level i b ms n = grind (arith, common_steps)
 
 module _ (l : Level) (ms : List Mark) (b i : ℕ) where
   answer_is : cover_answer l ms b i ≡ judged b (cond (key_of l i && not (cover_fine (covers_of l) ms b i)) (dead l.number i) live)
-  answer_is = ap (λ x. judged b (cond (x && not (cover_fine (covers_of l) ms b i)) (dead l.number i) live)) (in_key-bits (key_of l i))
-
-  -- a cover outside the key is not asked
-  pub answer_outside : key_of l i ≡ false → Ok tt ≡ cover_answer l ms b i
-  answer_outside out = sym (answer_is ∙ ap (λ x. judged b (cond (x && not (cover_fine (covers_of l) ms b i)) (dead l.number i) live)) out)
+  answer_is = grind (arith, common_steps, in_key-bits)
 
   pub answer_inside : (n : ℕ) (r : Result (Unit {0}) Fault) → key_of l i ≡ true → n ≡ place (covers_of l) i b → r ≡ asked ms n → placed_at l.number i b r ≡ cover_answer l ms b i
-  answer_inside n r in' e answer =
-      ap (placed_at l.number i b) (answer ∙ ap (asked ms) e) ∙ placed-asked l.number i b ms (place (covers_of l) i b) ∙
-      sym (answer_is ∙ ap (λ x. judged b (cond (x && not (cover_fine (covers_of l) ms b i)) (dead l.number i) live)) in')
+  answer_inside n r in' e answer = grind (arith, common_steps, answer_is, placed-asked)

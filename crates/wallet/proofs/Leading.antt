@@ -1,22 +1,23 @@
 -- Level puts of all second contents lead from a set that shows the first to its partner.
+use Rattle.std.proofs.lemmas.Grind.{common_steps}
 use Rattle.std.proofs.Common.{◌≡◌, ℕ, zero, suc, ◌+◌, ◌-◌, ◌*◌, ◌<◌, ◌≤◌, Bool, true, false, cond, not, ◌&&◌, ◌||◌, eqb, List, [], ◌∷◌, ◌++◌, length, get_or, set, is_ok, Ok, Err, sym, refl, ap, ◌∙◌, subst, ap₂, ⊎_elim, arith}
 use lib.Bits.{bit_xor, xor_assoc, xor_comm, xor_zero_r}
 use Rattle.std.proofs.lemmas.List.{length-append, get_or_append_left, get_or-append_right}
-use Rattle.std.proofs.lemmas.Bool.{cases_eq, cases_lt, cond-true, cond-false, eq-eqb, ne_eqb, lt-ltb, and_left, and_right, and_from, or_left}
+use Rattle.std.proofs.lemmas.Bool.{cases_eq, cond-true, cond-false, ne_eqb, lt-ltb, and_left, and_right}
 use Rattle.keys.specs.Bits.{bits, entry}
 use Rattle.keys.specs.Field.{Field}
 use Rattle.keys.specs.Vectors.{Orthonormal-vectors}
 use Rattle.store.specs.Stores.{Block, Mark, live, dead, judged, asked, all_live}
 use Rattle.store.proofs.Asking.{asked-within, asked-from_all}
-use Rattle.wallet.specs.Each.{byte_at, length-each, get_or-each, each-is}
+use Rattle.wallet.specs.Each.{byte_at, length-each, get_or-each}
 use Rattle.wallet.specs.Levels.{changed, shown_byte, shown, refilled, in_key, lowest_dead, cover_fine, level_mark, level_marks}
 use Rattle.wallet.specs.Matched.{both_of, hidden_sum, partner, Shows, key_vectors, Puts, after_puts, Accepted, OfHidden, has, PutsLead}
-use Rattle.wallet.specs.Places.{Covers, place, is_covered, cover_at, block_at}
-use Rattle.wallet.specs.Wallets.{State, stands, choosing, with_chosen, key_at, shown_under, marks_under, filled_under, named, not_standing, block_answer, put_call}
-use Rattle.wallet.proofs.Changing.{Reached, along, changed-is, changed-same, changed-none, changed-changed, length-changed, get_or-changed, change_at, byte_at-shown, shown-same, renewed-here, along-other}
+use Rattle.wallet.specs.Places.{Covers, place}
+use Rattle.wallet.specs.Wallets.{State, stands, with_chosen, key_at, shown_under, marks_under, filled_under, named, not_standing, put_call}
+use Rattle.wallet.proofs.Changing.{Reached, along, changed_by-bytes, whole-changed, byte_at-changed, changed-same, changed-none, changed-changed, length-changed, byte_at-shown, shown-same, renewed-here, along-other}
 use Rattle.wallet.proofs.Hiding.{byte_sum-update, byte_sum-none, shown_byte-own, reached_all}
 use Rattle.wallet.proofs.PlaceLaws.{place-covered, below_all, uncovered}
-use Rattle.wallet.proofs.Summing.{each_same, byte_sum-same, act_none}
+use Rattle.wallet.proofs.Summing.{byte_sum-same, act_none}
 use Rattle.wallet.proofs.Xors.{xor_again}
 
 module _ {F : Type 0} (f : Field F) (c : Covers) (us : ℕ → ℕ → F) (d m : ℕ) (orthonormal : Orthonormal-vectors f c.count m us) (first second : ℕ → List Block)
@@ -39,12 +40,11 @@ module _ {F : Type 0} (f : Field F) (c : Covers) (us : ℕ → ℕ → F) (d m :
   part_other done j b j' b' p away = ap (λ x. cond (x || has done j' b') (both_of first second j' b' p) 0) away
 
   part_here : (done : Puts) (j b p : ℕ) → part_of ((j, b) ∷ done) j b p ≡ both_of first second j b p
-  part_here done j b p =
-      cond-true (has ((j, b) ∷ done) j b) (both_of first second j b p) 0 (or_left (eqb j j && eqb b b) (has done j b) (and_from (eqb j j) (eqb b b) (eq-eqb j j refl) (eq-eqb b b refl)))
+  part_here done j b p = grind (arith, common_steps)
 
   -- e, with what is put over first and e together by second, is first and second together
   settles : (e x y : ℕ) → bit_xor e (bit_xor (bit_xor x e) y) ≡ bit_xor x y
-  settles e x y = ap (bit_xor e) (ap (λ z. bit_xor z y) (xor_comm x e) ∙ xor_assoc e x y) ∙ xor_again e (bit_xor x y)
+  settles e x y = grind (arith, common_steps, xor_comm, xor_assoc, xor_again)
 
   module _ (done : Puts) (j b : ℕ) (from : d ≤ j) (below : j < m) (within : b < c.blocks) where
     abbrev new : List Block
@@ -56,7 +56,7 @@ module _ {F : Type 0} (f : Field F) (c : Covers) (us : ℕ → ℕ → F) (d m :
         (λ here. ap (λ x. bit_xor (hidden_sum f us d m (part_of done) i x p) (along f c (us j) new (reaching done) i x p)) here ∙ at_b ∙ sym (ap (λ x. hidden_sum f us d m (part_of ((j, b) ∷ done)) i x p) here))
         (λ other.
         ap (bit_xor (hidden_sum f us d m (part_of done) i b' p)) (along-other f c (us j) (reaching done) b (get_or (second j) b []) within i b' p other lb lp) ∙ xor_zero_r (hidden_sum f us d m (part_of done) i b' p) ∙
-        byte_sum-same f (m - d) (λ l. us (d + l) i) (λ l. part_of done (d + l) b' p) (λ l. part_of ((j, b) ∷ done) (d + l) b' p) (λ l lt. sym (part_other done j b (d + l) b' p (and_right (eqb j (d + l)) (eqb b b') (ne_eqb b b' (λ e. other (sym e)))))))
+        byte_sum-same f (m - d) (λ l. us (d + l) i) (λ l. part_of done (d + l) b' p) (λ l. part_of ((j, b) ∷ done) (d + l) b' p) (λ l lt. grind (arith, common_steps)))
         (cases_eq b' b)
       where
         y : ℕ
@@ -86,17 +86,11 @@ module _ {F : Type 0} (f : Field F) (c : Covers) (us : ℕ → ℕ → F) (d m :
         changed-same c (λ i b' p. bit_xor (hidden_sum f us d m (part_of done) i b' p) (along f c (us j) new (reaching done) i b' p)) (hidden_sum f us d m (part_of ((j, b) ∷ done))) change bs
 
   pub put_none : ((n : ℕ) → n < length bs → length (get_or bs n []) ≡ 512) → bs ≡ reaching []
-  put_none whole =
-      sym (changed-none c bs whole) ∙
-      changed-same c (λ i b p. 0) (hidden_sum f us d m (part_of [])) (λ i b p li lb lp. sym (byte_sum-none f (m - d) (λ l. us (d + l) i) (λ l. 0) (λ l lt. act_none f (us (d + l) i)))) bs
+  put_none whole = sym (changed-none c bs whole) ∙ changed-same c (λ i b p. 0) (hidden_sum f us d m (part_of [])) (λ i b p li lb lp. grind (arith, common_steps, byte_sum-none, act_none)) bs
 
   pub put_all : (done : Puts) → ((j b : ℕ) → d ≤ j → j < m → b < c.blocks → has done j b ≡ true) → reaching done ≡ partner f c us d m first second bs
   unfolding partner
-  put_all done all =
-      changed-same c (hidden_sum f us d m (part_of done)) (hidden_sum f us d m (both_of first second))
-      (λ i b p li lb lp.
-      byte_sum-same f (m - d) (λ l. us (d + l) i) (λ l. part_of done (d + l) b p) (λ l. both_of first second (d + l) b p)
-      (λ l lt. cond-true (has done (d + l) b) (both_of first second (d + l) b p) 0 (all (d + l) b (omega arith) (omega arith) lb))) bs
+  put_all done all = grind (arith, common_steps, byte_sum-same, changed-same)
 
 -- where every block of the store is live, so is every block of a level
 module _ {F : Type 0} (f : Field F) (c : Covers) (level : ℕ) (u : ℕ → F) (ms : List Mark) (enough : c.count * c.blocks ≤ length ms) (all : is_ok (all_live ms) ≡ true) where
@@ -128,34 +122,15 @@ module _ (c : Covers) (bs rest : List Block) (size : length bs ≡ c.count * c.b
       (λ i li. ap (λ x. get_or x p 0) (inside (place c i b) (omega (arith, below_all c (place c i b) (place-covered c i b lb li))))))
 
   pub changed-append : (g : ℕ → ℕ → ℕ → ℕ) → ((n : ℕ) → n < length rest → length (get_or rest n []) ≡ 512) → changed c g (bs ++ rest) ≡ changed c g bs ++ rest
-  changed-append g whole =
-      let total = length-append bs rest in
-      let same = length-changed c g bs in
-      sym (changed-is c g (bs ++ rest) (changed c g bs ++ rest) (length-append (changed c g bs) rest ∙ ap (λ n. n + length rest) same ∙ sym total)
-      (λ n lt.
-      ⊎_elim
-      (λ within.
-      get_or_append_left (changed c g bs) rest [] n (omega arith) ∙ get_or-changed c g bs n within ∙
-      each_same 512 (λ p. bit_xor (byte_at bs n p) (change_at c g n p)) (λ p. bit_xor (byte_at (bs ++ rest) n p) (change_at c g n p)) 0 (λ p lp. ap (λ x. bit_xor (get_or x p 0) (change_at c g n p)) (sym (inside n within))))
-      (λ past.
-      get_or-append_right (changed c g bs) rest (length bs) n [] same past ∙
-      each-is 512 (λ p. bit_xor (byte_at (bs ++ rest) n p) (change_at c g n p)) (get_or rest (n - length bs) []) 0 (whole (n - length bs) (omega arith))
-      (λ p lp. sym (ap₂ bit_xor (ap (λ x. get_or x p 0) (get_or-append_right bs rest (length bs) n [] refl past)) (cond-false (is_covered c n) (g (cover_at c n) (block_at c n) p) 0 (uncovered c n (omega arith))) ∙ xor_zero_r (byte_at rest (n - length bs) p))))
-      (cases_lt n (length bs))))
+  changed-append g whole = sym (changed_by-bytes c g (bs ++ rest) (changed c g bs ++ rest) (length-append (changed c g bs) rest ∙ ap (λ n. n + length rest) (length-changed c g bs) ∙ sym (length-append bs rest)) (λ n lt. grind (arith, common_steps, length-append, length-changed, whole-changed, get_or_append_left, get_or-append_right)) (λ n p lt lp. grind (arith, common_steps, length-append, length-changed, get_or_append_left, get_or-append_right, byte_at-changed, uncovered, xor_zero_r)))
 
   whole_append : ((n : ℕ) → n < length bs → length (get_or bs n []) ≡ 512) → ((n : ℕ) → n < length rest → length (get_or rest n []) ≡ 512) → (n : ℕ) → n < length (bs ++ rest) → length (get_or (bs ++ rest) n []) ≡ 512
-  whole_append one two n lt =
-      ⊎_elim
-      (λ within. ap length (inside n within) ∙ one n within)
-      (λ past. ap length (get_or-append_right bs rest (length bs) n [] refl past) ∙ two (n - length bs) (omega (arith, length-append bs rest)))
-      (cases_lt n (length bs))
+  whole_append one two n lt = grind (arith, common_steps, get_or-append_right, inside, length-append)
 
 -- an accepted put fills the level
 module _ (w : State) (j b : ℕ) (contents : Block) (standing : stands w j ≡ true) (accepted : (put_call w j b contents).0 ≡ Ok tt) where
   pub put_fills : (put_call w j b contents).1 ≡ filled_under (with_chosen j w) (key_at w j) (set (shown_under w (key_at w j)) b contents)
-  put_fills =
-      cond-true (is_ok (block_answer w j b)) (filled_under (choosing j w) (key_at w j) (set (shown_under w (key_at w j)) b contents)) (choosing j w) (ap is_ok accepted) ∙
-      ap (λ x. filled_under x (key_at w j) (set (shown_under w (key_at w j)) b contents)) (cond-true (stands w j) (with_chosen j w) w standing)
+  put_fills = grind (arith, common_steps)
 
 regroup : (x y z : Bool) → (x || (y || z)) ≡ true → ((y || x) || z) ≡ true
 regroup true true z e = refl

@@ -11,6 +11,5 @@ pub mod PlaceLaws
 pub mod Putting
 pub mod Scattering
 pub mod Summing
-pub mod WalletCalls
 pub mod WorkedCases
 pub mod Xors

@@ -1,6 +1,7 @@
 -- The mark of a level's block, found by asking its covers in order.
-use Rattle.std.proofs.Common.{◌≡◌, ℕ, zero, suc, ◌+◌, ◌-◌, ◌<◌, ◌≤◌, Bool, true, false, cond, not, ◌&&◌, List, length, is_ok, Ok, Err, sym, refl, ap, ◌∙◌, ⊎_elim, add-one, arith}
-use Rattle.std.proofs.lemmas.Bool.{cases_Bool, cases_eq, cond-true, cond-false, true≢false, false≢true, not-false}
+use Rattle.std.proofs.lemmas.Grind.{common_steps}
+use Rattle.std.proofs.Common.{◌≡◌, ℕ, zero, suc, ◌+◌, ◌-◌, ◌<◌, ◌≤◌, Bool, true, false, cond, List, length, is_ok, Ok, Err, sym, refl, ap, ◌∙◌, ⊎_elim, arith}
+use Rattle.std.proofs.lemmas.Bool.{cases_Bool, true≢false, false≢true}
 use Rattle.keys.specs.Bits.{bits}
 use Rattle.faults.specs.Faults.{past_count}
 use Rattle.faults.specs.declared.Fault.{Fault}
@@ -39,17 +40,11 @@ module _ (l : Level) (ms : List Mark) (b : ℕ) where
     one_left = omega arith
 
     pub passed_more : Passed i → is_ok (cover_answer l ms b i) ≡ true → Passed (i + 1)
-    passed_more was ok =
-        ap (lowest (l.covers - (i + 1))) (add-one i) ∙
-        sym (cond-false (spoiled i) (dead l.number i) (lowest (l.covers - (i + 1)) (suc i)) (fine_cover i ok)) ∙
-        ap (λ n. lowest n i) (sym one_left) ∙ was
+    passed_more was ok = grind (arith, common_steps, fine_cover, one_left)
 
     -- the first cover that refuses is the lowest that makes the block dead
     stopped : Passed i → is_ok (cover_answer l ms b i) ≡ false → cover_answer l ms b i ≡ judged b (lowest l.covers 0)
-    stopped was refused =
-        let bad = bad_cover i refused in
-        ap (judged b)
-        (cond-true (spoiled i) (dead l.number i) live bad ∙ sym (cond-true (spoiled i) (dead l.number i) (lowest (l.covers - (i + 1)) (suc i)) bad) ∙ ap (λ n. lowest n i) (sym one_left) ∙ was)
+    stopped was refused = grind (arith, common_steps, bad_cover, one_left)
 
   pub level_past : l.blocks ≤ b → Err (past_count b) ≡ asked (level_marks_of l ms) b
   unfolding level_marks
@@ -57,9 +52,7 @@ module _ (l : Level) (ms : List Mark) (b : ℕ) where
 
   level-asked : b < l.blocks → judged b (lowest l.covers 0) ≡ asked (level_marks_of l ms) b
   unfolding level_marks level_mark
-  level-asked within =
-      sym (asked-within (level_marks_of l ms) b (omega (arith, length-each l.blocks (level_mark bits (covers_of l) l.number (key_of l) ms))) ∙
-      ap (judged b) (get_or-each l.blocks (level_mark bits (covers_of l) l.number (key_of l) ms) b live within))
+  level-asked within = grind (arith, common_steps, asked-within, get_or-each, length-each)
 
   -- the first cover that refuses gives the level's answer
   pub refused_at : (i : ℕ) → i < l.covers → b < l.blocks → Passed i → (f : Fault) → Err f ≡ cover_answer l ms b i → Err f ≡ asked (level_marks_of l ms) b
@@ -72,15 +65,7 @@ module _ (l : Level) (ms : List Mark) (b : ℕ) where
   -- where no cover makes the block dead, each one is accepted
   lowest-live : (many i : ℕ) → lowest many i ≡ live → (j : ℕ) → i ≤ j → j < i + many → is_ok (cover_answer l ms b j) ≡ true
   lowest-live zero i e j from below = absurd (omega arith)
-  lowest-live (suc many) i e j from below =
-      ⊎_elim
-      (λ bad. absurd (false≢true (ap (λ m. is_ok (judged b m)) (sym (cond-true (spoiled i) (dead l.number i) (lowest many (suc i)) bad) ∙ e))))
-      (λ fine.
-      ⊎_elim
-      (λ here. ap (λ n. is_ok (cover_answer l ms b n)) here ∙ ap (λ x. is_ok (judged b (cond x (dead l.number i) live))) fine)
-      (λ other. lowest-live many (suc i) (sym (cond-false (spoiled i) (dead l.number i) (lowest many (suc i)) fine) ∙ e) j (omega arith) (omega arith))
-      (cases_eq j i))
-      (cases_Bool (spoiled i))
+  lowest-live (suc many) i e j from below = grind (arith, common_steps, lowest-live many (suc i))
 
   live_from_ok : (m : Mark) → is_ok (judged b m) ≡ true → m ≡ live
   live_from_ok live ok = refl
@@ -93,6 +78,4 @@ module _ (l : Level) (ms : List Mark) (b : ℕ) where
 
   -- a cover of the key that is accepted has its block in the store
   pub cover_within : (i : ℕ) → key_of l i ≡ true → is_ok (cover_answer l ms b i) ≡ true → place (covers_of l) i b < length ms
-  cover_within i in' ok =
-      within_from_ok ms (place (covers_of l) i b)
-      (not-false (cover_fine (covers_of l) ms b i) (ap (λ x. x && not (cover_fine (covers_of l) ms b i)) (sym (in_key-bits (key_of l i) ∙ in')) ∙ fine_cover i ok))
+  cover_within i in' ok = grind (arith, common_steps, fine_cover, in_key-bits, within_from_ok)

@@ -1,4 +1,5 @@
 -- The matching of cover sets, over any field in which 1 + 1 is 0.
+use Rattle.std.proofs.lemmas.Grind.{common_steps}
 use Rattle.std.proofs.Common.{◌≡◌, ℕ, ◌+◌, ◌-◌, ◌<◌, ◌≤◌, cond, List, length, sym, ap, ◌∙◌, subst, ⊎_elim, arith}
 use lib.Bits.{bit_xor, xor_comm, xor_self, xor_lt}
 use Rattle.std.proofs.lemmas.Bool.{cases_Bool}
@@ -62,13 +63,7 @@ module _ {F : Type 0} (f : Field F) (keeps : (x : F) (b : ℕ) → b < 256 → f
     own_byte j b p from below lb lp = shown_byte-own f c us d m orthonormal (both_of first second) bs reached j b p from below lb lp
 
     shows_second : Shows f c us d m first bs → Shows f c us d m second (mate bs)
-    shows_second shows j from below =
-        let y = two j from below in
-        shown-is f c (us j) (mate bs) (second j) y.size y.whole
-        (λ b p lb lp.
-        own_byte j b p from below lb lp ∙
-        ap (λ x. bit_xor x (both_of first second j b p)) (sym (byte_at-shown f c (us j) bs b p lb lp) ∙ ap (λ x. byte_at x b p) (shows j from below)) ∙
-        xor_again (byte_at (first j) b p) (byte_at (second j) b p))
+    shows_second shows j from below = grind (arith, common_steps, shown-is, own_byte, byte_at-shown, xor_again)
 
     shows_first : Shows f c us d m second (mate bs) → Shows f c us d m first bs
     shows_first shows j from below =

@@ -1,9 +1,10 @@
 -- Sums of bytes over the covers of a key.
-use Rattle.std.proofs.Common.{◌≡◌, ℕ, zero, suc, ◌+◌, ◌<◌, Bool, true, false, cond, ◌&&◌, List, [], length, get_or, replicate, sym, refl, ap, ◌∙◌, ap₂, ⊎_elim, add-one, arith}
+use Rattle.std.proofs.Common.{rules}
+use Rattle.std.proofs.lemmas.Grind.{common_steps}
+use Rattle.std.proofs.Common.{◌≡◌, ℕ, zero, suc, ◌+◌, ◌<◌, true, false, cond, ◌&&◌, List, [], length, get_or, replicate, sym, refl, ap, ◌∙◌, ap₂, add-one, arith}
 use lib.Bits.{bit_xor, xor_assoc, xor_self, xor_zero_r}
 use Rattle.std.proofs.lemmas.List.{get_or-replicate}
-use Rattle.std.proofs.lemmas.Bool.{cases_Bool, cond-true, cond-false}
-use Rattle.keys.specs.Bits.{bits, taken}
+use Rattle.keys.specs.Bits.{bits}
 use Rattle.keys.specs.Field.{Field}
 use Rattle.keys.specs.Vectors.{dot}
 use Rattle.store.specs.Stores.{Block}
@@ -64,36 +65,19 @@ module _ (l : Level) (bs : List Block) (b : ℕ) where
   module _ (s : Block) (i : ℕ) where
     summed-inside : key_of l i ≡ true → xor_block (summed s i) (get_or bs (place (covers_of l) i b) []) ≡ summed s (i + 1)
     unfolding xor_block
-    summed-inside in' =
-        each_same 512 (λ p. bit_xor (get_or (summed s i) p 0) (byte_at bs (place (covers_of l) i b) p)) (λ p. bit_xor (get_or s p 0) (part_sum (i + 1) p)) 0
-        (λ p lt.
-        ap (λ x. bit_xor x (byte_at bs (place (covers_of l) i b) p)) (get_or-each 512 (λ q. bit_xor (get_or s q 0) (part_sum i q)) p 0 lt) ∙
-        xor_assoc (get_or s p 0) (part_sum i p) (byte_at bs (place (covers_of l) i b) p) ∙
-        ap (bit_xor (get_or s p 0)) (ap (λ x. bit_xor (part_sum i p) (taken x (byte_at bs (place (covers_of l) i b) p))) (sym in') ∙ sym (byte_sum-more bits i (key_of l) (λ j. byte_at bs (place (covers_of l) j b) p))))
+    summed-inside in' = search (rules, byte_sum-more, each_same, get_or-each, xor_assoc)
 
     summed-outside : key_of l i ≡ false → summed s i ≡ summed s (i + 1)
-    summed-outside out =
-        each_same 512 (λ p. bit_xor (get_or s p 0) (part_sum i p)) (λ p. bit_xor (get_or s p 0) (part_sum (i + 1) p)) 0
-        (λ p lt.
-        ap (bit_xor (get_or s p 0))
-        (sym (byte_sum-more bits i (key_of l) (λ j. byte_at bs (place (covers_of l) j b) p) ∙ ap (λ x. bit_xor (part_sum i p) (taken x (byte_at bs (place (covers_of l) i b) p))) out ∙ xor_zero_r (part_sum i p))))
+    summed-outside out = grind (arith, common_steps, byte_sum-more, each_same)
 
     -- one cover more, whether in the key or not
-    pub summed-more : (old new : Block) (ok : Bool) → ok ≡ true → old ≡ summed s i → new ≡ cond (key_of l i && ok) (xor_block old (get_or bs (place (covers_of l) i b) [])) old → new ≡ summed s (i + 1)
-    summed-more old new ok yes' was is =
-        ⊎_elim
-        (λ in'. is ∙ cond-true (key_of l i && ok) _ old (ap₂ (λ x y. x && y) in' yes') ∙ ap (λ x. xor_block x (get_or bs (place (covers_of l) i b) [])) was ∙ summed-inside in')
-        (λ out. is ∙ cond-false (key_of l i && ok) _ old (ap (λ x. x && ok) out) ∙ was ∙ summed-outside out)
-        (cases_Bool (key_of l i))
+    pub summed-more : (old new : Block) → old ≡ summed s i → new ≡ cond (key_of l i && true) (xor_block old (get_or bs (place (covers_of l) i b) [])) old → new ≡ summed s (i + 1)
+    summed-more old new was is = grind (arith, common_steps, summed-inside, summed-outside)
 
   -- all covers: the level's block
   pub summed-all : (s : Block) → b < l.blocks → summed s l.covers ≡ xor_block s (get_or (level_blocks l bs) b [])
   unfolding xor_block shown shown_block shown_byte
-  summed-all s within =
-      each_same 512 (λ p. bit_xor (get_or s p 0) (part_sum l.covers p)) (λ p. bit_xor (get_or s p 0) (get_or (get_or (level_blocks l bs) b []) p 0)) 0
-      (λ p lt.
-      ap (bit_xor (get_or s p 0))
-      (sym (ap (λ x. get_or x p 0) (get_or-each l.blocks (shown_block bits (covers_of l) (key_of l) bs) b [] within) ∙ get_or-each 512 (shown_byte bits (covers_of l) (key_of l) bs b) p 0 lt)))
+  summed-all s within = each_same 512 _ _ 0 (λ p lt. grind (arith, common_steps, get_or-each))
 
   pub summed-zero : b < l.blocks → summed (replicate 512 0) l.covers ≡ get_or (level_blocks l bs) b []
   unfolding shown shown_block shown_byte

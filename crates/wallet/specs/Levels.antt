@@ -1,5 +1,5 @@
 -- What a level shows of a store's blocks and marks under its key, and what a write to it makes of the blocks.
-use Rattle.std.specs.Prelude.{ℕ, zero, suc, Bool, true, false, cond, not, ◌&&◌, List, length, is_ok, bit_xor, slice_index}
+use Rattle.std.specs.Prelude.{ℕ, zero, suc, Bool, true, false, if◌then◌else◌, not, ◌&&◌, List, length, is_ok, bit_xor, slice_index}
 use Rattle.std.proofs.Common.{⊎_elim}
 use Rattle.keys.specs.Field.{Field}
 use Rattle.store.specs.Stores.{Block, Mark, live, dead, asked}
@@ -12,7 +12,7 @@ xor_block a b = each 512 (λ p. bit_xor (slice_index a p) (slice_index b p))
 
 -- The blocks with byte p of block b of cover i changed by the exclusive or with `change i b p`; blocks of no cover stay.
 unfoldable pub changed : Covers → (ℕ → ℕ → ℕ → ℕ) → List Block → List Block
-changed c change bs = each (length bs) (λ n. each 512 (λ p. bit_xor (byte_at bs n p) (cond (is_covered c n) (change (cover_at c n) (block_at c n) p) 0)))
+changed c change bs = each (length bs) (λ n. each 512 (λ p. bit_xor (byte_at bs n p) (if is_covered c n then change (cover_at c n) (block_at c n) p else 0)))
 
 -- Whether block b of cover i is live; one past the store's end is not.
 abbrev pub cover_fine : Covers → List Mark → (b i : ℕ) → Bool
@@ -51,7 +51,7 @@ module _ {F : Type 0} (f : Field F) where
   -- The mark of the lowest cover, among so many from cover i on, that makes the block dead; live where there is none.
   abbrev pub lowest_dead : (level : ℕ) → (ℕ → F) → (fine : ℕ → Bool) → (many i : ℕ) → Mark
   lowest_dead level u fine zero i = live
-  lowest_dead level u fine (suc many) i = cond (spoils u fine i) (dead level i) (lowest_dead level u fine many (suc i))
+  lowest_dead level u fine (suc many) i = if spoils u fine i then dead level i else lowest_dead level u fine many (suc i)
 
   -- A level's block is dead where a cover in its key isn't live there: its mark has the level and the lowest such cover.
   unfoldable pub level_mark : Covers → (level : ℕ) → (ℕ → F) → List Mark → ℕ → Mark

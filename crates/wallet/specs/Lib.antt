@@ -2,6 +2,7 @@
 pub mod Each
 pub mod Levels
 pub mod Matched
+pub mod Parts
 pub mod Places
 pub mod Standing
 pub mod Wallets

@@ -1,5 +1,5 @@
 -- What a standing level means, and what one of its covers answers.
-use Rattle.std.specs.Prelude.{◌≡◌, ℕ, ◌^◌, ◌<◌, Bool, true, cond, List, [], Ok, Err, Result, ◌==◌, slice_index, slice_index_or, slice_set}
+use Rattle.std.specs.Prelude.{◌≡◌, ℕ, ◌^◌, ◌<◌, Bool, true, if◌then◌else◌, List, [], Ok, Err, Result, ◌==◌, slice_index, slice_index_or, slice_set}
 use Rattle.keys.specs.Bits.{bits, entry}
 use Rattle.keys.specs.Keys.{product}
 use Rattle.store.specs.Stores.{Block, Mark, live, dead, judged}
@@ -33,7 +33,7 @@ placed_at level cover block (Err f) = Err (record { question = BlockLive; level 
 
 -- What cover i answers of block b of the level.
 abbrev pub cover_answer : Level → List Mark → (b i : ℕ) → Result (Unit {0}) Fault
-cover_answer l ms b i = judged b (cond (spoils bits (key_of l) (cover_fine (covers_of l) ms b) i) (dead l.number i) live)
+cover_answer l ms b i = judged b (if spoils bits (key_of l) (cover_fine (covers_of l) ms b) i then dead l.number i else live)
 
 -- The blocks held are those of the covers in the key.
 abbrev pub Holds : Level → List Block → (b : ℕ) → List Block → Type 0
@@ -41,7 +41,7 @@ Holds l bs b held = (i : ℕ) → i < l.covers → key_of l i ≡ true → slice
 
 -- The store's blocks with a change added to block b of each cover in the key.
 abbrev pub spread : Level → (b : ℕ) → Block → List Block → List Block
-spread l b change bs = changed (covers_of l) (λ i b' p. cond (b' == b) (bits.act (key_of l i) (slice_index change p)) 0) bs
+spread l b change bs = changed (covers_of l) (λ i b' p. if b' == b then bits.act (key_of l i) (slice_index change p) else 0) bs
 
 -- After an accepted put of block b the level shows the new contents there and its old ones elsewhere,
 -- and the level of every key that has product 0 with this one's shows what it showed.

@@ -2,13 +2,12 @@
 ghost use Rattle.std.specs.Prelude.{◌≡◌};
 ghost use Rattle.wallet.specs.Levels.{xor_block};
 
-use store::interface::{BLOCK_SIZE, Block};
+use std::array;
+use store::interface::Block;
 
-// Each byte of `into` becomes its exclusive or with the byte of `from` at the same place.
-pub(crate) fn xor_into(into: &mut Block, from: &Block)
-    ensures { into.new ≡ xor_block into.old from.now }
+// Each byte is the exclusive or of the two bytes at the same place.
+pub(crate) fn xor(a: &Block, b: &Block) -> Block
+    ensures { result ≡ xor_block a.now b.now }
 {
-    for p in 0..BLOCK_SIZE {
-        into[p] ^= from[p];
-    }
+    array::from_fn(|p| a[p] ^ b[p])
 }

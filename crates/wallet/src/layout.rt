@@ -6,7 +6,7 @@ use keys::table::KeyTable;
 mod calls;
 
 // Each cover has so many blocks; the key table knows how many covers there are.
-#[derive(Clone, Copy, Drop)]
+#[derive(Drop)]
 pub(crate) struct Layout {
     pub(crate) keys: KeyTable,
     pub(crate) blocks: usize,

@@ -3,7 +3,7 @@ ghost use Rattle.std.specs.Prelude.{◌≡◌, ◌^◌, ◌<◌, ◌≤◌};
 ghost use Rattle.keys.specs.Keys.{product};
 
 mod block_calls;
-mod covers;
+mod part;
 
 #[derive(Clone, Copy, Drop)]
 pub(crate) struct Level {

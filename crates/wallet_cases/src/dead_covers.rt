@@ -1,24 +1,26 @@
 // Dead blocks of covers: which levels they make dead, and which cover a refusal names.
-use crate::expected::{ACCEPTED, Refusal, fetch, lay_out_four, put};
+use crate::expected::{agrees, lay_out_four};
+use faults::Fault;
+use faults::Question::BlockLive;
 use std::io;
 use store::image::Image;
 use store::interface::Store;
 use tally::Tally;
 use wallet::wallet::Wallet;
 
-pub fn all(rt: &HostRuntime) -> io::Result<bool> {
-    let mut tally = Tally::new();
-    for dead in &CASES {
-        try_one(&mut tally, dead);
+pub fn all(rt: &HostRuntime, tally: &mut Tally) -> io::Result<()> {
+    for case in CASES {
+        try_one(tally, case);
     }
-    Ok(tally.report(rt, "dead blocks of covers")?)
+    tally.report(rt, "dead blocks of covers")
 }
 
-// Store blocks condemned, what each level answers of block 2, and the first byte of block 2 of each cover afterwards.
+// Store blocks condemned, the dead cover that each level names of block 2, and the first byte of block 2 of each cover afterwards.
+#[derive(Clone, Copy)]
 struct Dead {
     condemned: [usize; 2],
-    wanted: [Refusal; 4],
-    covers: [usize; 4],
+    named: [Option<usize>; 4],
+    covers: [u8; 4],
 }
 
 // The levels have the keys 7, 14, 11 and 13. Block 2 of cover 1 is store block 6, and level 3 alone does without that cover: it takes
@@ -27,56 +29,73 @@ struct Dead {
 const CASES: [Dead; 2] = [
     Dead {
         condemned: [6, 6],
-        wanted: [
-            Refusal(2, 0, 2, 1),
-            Refusal(2, 1, 2, 1),
-            Refusal(2, 2, 2, 1),
-            ACCEPTED,
-        ],
+        named: [Some(1), Some(1), Some(1), None],
         covers: [0x5a, 0x11, 0x5a, 0x5a],
     },
     Dead {
         condemned: [14, 6],
-        wanted: [
-            Refusal(2, 0, 2, 1),
-            Refusal(2, 1, 2, 1),
-            Refusal(2, 2, 2, 1),
-            Refusal(2, 3, 2, 3),
-        ],
+        named: [Some(1), Some(1), Some(1), Some(3)],
         covers: [0x11, 0x11, 0x11, 0x11],
     },
 ];
 
-fn try_one(tally: &mut Tally, dead: &Dead) {
+fn try_one(tally: &mut Tally, case: Dead) {
     let mut memory = [0x11; 8192];
     let mut image = Image::new(&mut memory);
-    for n in dead.condemned {
-        tally.answers("condemn", image.condemn(n), 0);
+    for n in case.condemned {
+        tally.answers("condemn", image.condemn(n), Ok(()));
     }
     let mut wallet = Wallet::new(image);
-    work(tally, &mut wallet, &dead.wanted);
+    work(tally, &mut wallet, case.named);
     drop(wallet);
-    for cover in 0..4 {
-        let place = cover * 2048 + 1024;
-        tally.expect("a cover's byte", memory[place] as usize, dead.covers[cover]);
-        tally.expect("another block", memory[place + 512] as usize, 0x11);
+    for (cover, byte) in memory.chunks_exact(2048).zip(case.covers) {
+        tally.expect("a cover's byte", cover[1024], byte);
+        tally.expect("another block", cover[1536], 0x11);
     }
 }
 
-fn work<S: Store>(tally: &mut Tally, wallet: &mut Wallet<S>, wanted: &[Refusal; 4]) {
+fn work<S: Store>(tally: &mut Tally, wallet: &mut Wallet<S>, named: [Option<usize>; 4]) {
     lay_out_four(tally, wallet);
-    for level in 0..4 {
-        try_level(tally, wallet, level, wanted[level]);
+    for (level, cover) in named.into_iter().enumerate() {
+        try_level(tally, wallet, level, cover);
     }
 }
 
-// A fetch and a put of block 2, and a fetch of another; what is refused leaves the buffer.
-fn try_level<S: Store>(tally: &mut Tally, wallet: &mut Wallet<S>, level: usize, wanted: Refusal) {
+// A fetch and a put of block 2, refused where it names a dead cover, and a fetch of another; what is refused leaves the buffer.
+fn try_level<S: Store>(
+    tally: &mut Tally,
+    wallet: &mut Wallet<S>,
+    level: usize,
+    dead: Option<usize>,
+) {
+    let wanted = dead.map_or(Ok(()), |cover| {
+        Err(Fault {
+            question: BlockLive,
+            level,
+            block: 2,
+            cover,
+            rule: 0,
+        })
+    });
     let mut buffer = [0xee; 512];
-    fetch(tally, wallet, level, 2, &mut buffer, wanted);
-    let Refusal(number, _, _, _) = wanted;
-    let byte = if number == 0 { 0x11 } else { 0xee };
-    tally.expect("buffer", buffer[511] as usize, byte);
-    put(tally, wallet, level, 2, &[0x5a; 512], wanted);
-    fetch(tally, wallet, level, 1, &mut buffer, ACCEPTED);
+    agrees(
+        tally,
+        "fetch",
+        wallet.level_fetch(level, 2, &mut buffer),
+        wanted,
+    );
+    let byte = if wanted.is_ok() { 0x11 } else { 0xee };
+    tally.expect("buffer", buffer[511], byte);
+    agrees(
+        tally,
+        "put",
+        wallet.level_put(level, 2, &[0x5a; 512]),
+        wanted,
+    );
+    agrees(
+        tally,
+        "fetch",
+        wallet.level_fetch(level, 1, &mut buffer),
+        Ok(()),
+    );
 }

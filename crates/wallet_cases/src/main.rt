@@ -1,7 +1,7 @@
 // Wallets at their edges, and a wide set of long covers, each compared with the value that the rules give.
 #![tactic(auto)]
 
-use anyhow::anyhow;
+use tally::Tally;
 
 mod dead_covers;
 mod expected;
@@ -11,18 +11,11 @@ mod wide;
 mod worked;
 
 fn main(rt: HostRuntime) -> anyhow::Result<()> {
-    run(&rt)
-}
-
-fn run(rt: &HostRuntime) -> anyhow::Result<()> {
-    let mut right = laying_out::all(rt)?;
-    right &= order::all(rt)?;
-    right &= dead_covers::all(rt)?;
-    right &= worked::all(rt)?;
-    right &= wide::all(rt)?;
-    if right {
-        Ok(())
-    } else {
-        Err(anyhow!("some cases went wrong"))
-    }
+    let mut tally = Tally::new(rt.alloc());
+    laying_out::all(&rt, &mut tally)?;
+    order::all(&rt, &mut tally)?;
+    dead_covers::all(&rt, &mut tally)?;
+    worked::all(&rt, &mut tally)?;
+    wide::all(&rt, &mut tally)?;
+    tally.verdict()
 }

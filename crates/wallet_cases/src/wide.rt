@@ -1,5 +1,5 @@
 // A wide set of long covers: an edit of level 0 leaves every other level as it was.
-use crate::expected::{ACCEPTED, fetch, lay_out, put, take};
+use crate::expected::agrees;
 use store::image::Image;
 use store::interface::Store;
 use tally::Tally;
@@ -24,15 +24,15 @@ const EDITS: [(usize, u8); 3] = [(0, 0x41), (57, 0), (99, 0xff)];
 // The covers of level 0's key.
 const COVERS: [usize; 3] = [1, 20, 31];
 
-pub fn all(rt: &HostRuntime) -> anyhow::Result<bool> {
-    let mut tally = Tally::new();
+pub fn all(rt: &HostRuntime, tally: &mut Tally) -> anyhow::Result<()> {
     let mut memory = vec![in rt.alloc(); 0u8; LEN]?;
     fill(memory.as_mut_slice());
     let mut wallet = Wallet::new(Image::new(memory.as_mut_slice()));
-    edit(rt, &mut tally, &mut wallet)?;
+    edit(rt, tally, &mut wallet)?;
     drop(wallet);
-    covers_after(&mut tally, memory.as_slice());
-    Ok(tally.report(rt, "a wide set of long covers")?)
+    covers_after(tally, memory.as_slice());
+    tally.report(rt, "a wide set of long covers")?;
+    Ok(())
 }
 
 // What stands at a byte place at first.
@@ -41,8 +41,8 @@ fn noise(place: usize) -> u8 {
 }
 
 fn fill(memory: &mut [u8]) {
-    for place in 0..memory.len() {
-        memory[place] = noise(place);
+    for (place, byte) in memory.iter_mut().enumerate() {
+        *byte = noise(place);
     }
 }
 
@@ -52,16 +52,15 @@ fn bit(cover: u32) -> u64 {
 
 // The keys of a group, each the sum of three of its covers.
 fn keys_of(group: [u32; 4]) -> [u64; 4] {
-    let [a, b, c, d] = group;
-    let (a, b, c, d) = (bit(a), bit(b), bit(c), bit(d));
+    let [a, b, c, d] = group.map(bit);
     [a | b | c, b | c | d, a | b | d, a | c | d]
 }
 
 fn take_keys<S: Store>(tally: &mut Tally, wallet: &mut Wallet<S>) {
-    lay_out(tally, wallet, 32, 100, 0);
+    tally.answers("lay out", wallet.lay_out(32, 100), Ok(()));
     for group in GROUPS {
         for key in keys_of(group) {
-            take(tally, wallet, key, 0);
+            tally.answers("take", wallet.take(key), Ok(()));
         }
     }
 }
@@ -74,9 +73,16 @@ fn levels<S: Store>(
 ) -> anyhow::Result<Vec<u8>> {
     let mut bytes = Vec::new(rt.alloc());
     let mut buffer = [0; 512];
-    for n in 0..1600 {
-        fetch(tally, wallet, n / 100, n % 100, &mut buffer, ACCEPTED);
-        bytes.extend_from_slice(&buffer)?;
+    for level in 0..16 {
+        for b in 0..100 {
+            agrees(
+                tally,
+                "fetch",
+                wallet.level_fetch(level, b, &mut buffer),
+                Ok(()),
+            );
+            bytes.extend_from_slice(&buffer)?;
+        }
     }
     Ok(bytes)
 }
@@ -89,22 +95,17 @@ fn edit<S: Store>(
     take_keys(tally, wallet);
     let before = levels(rt, tally, wallet)?;
     for (b, byte) in EDITS {
-        put(tally, wallet, 0, b, &[byte; 512], ACCEPTED);
+        agrees(tally, "put", wallet.level_put(0, b, &[byte; 512]), Ok(()));
     }
     let after = levels(rt, tally, wallet)?;
     compare(tally, before.as_slice(), after.as_slice());
     Ok(())
 }
 
-// The bytes that differ from `from` on, up to `to`.
+// How many bytes differ from `from` on, up to `to`.
 fn different(before: &[u8], after: &[u8], from: usize, to: usize) -> usize {
-    let mut count = 0usize;
-    for place in from..to.min(before.len()).min(after.len()) {
-        if before[place] != after[place] {
-            count = count.saturating_add(1);
-        }
-    }
-    count
+    let pairs = before.iter().zip(after).take(to).skip(from);
+    pairs.filter(|(old, new)| old != new).count()
 }
 
 // Every other level is as it was; level 0 too but for the edited blocks, which have their new bytes.
@@ -115,9 +116,8 @@ fn compare(tally: &mut Tally, before: &[u8], after: &[u8]) {
     tally.expect("level 0", different(before, after, 512, 57 * 512), 0);
     tally.expect("level 0", different(before, after, 58 * 512, 99 * 512), 0);
     for (b, byte) in EDITS {
-        let new = [byte; 512];
-        let block = after.chunks(512).nth(b).unwrap_or(&[]);
-        tally.expect("an edited block", (block == new.as_slice()) as usize, 1);
+        let block = after.chunks(512).nth(b);
+        tally.expect("an edited block", block, Some([byte; 512].as_slice()));
     }
 }
 
@@ -132,16 +132,11 @@ fn covers_after(tally: &mut Tally, memory: &[u8]) {
 
 // The same at one byte place of the covers.
 fn covers_at(tally: &mut Tally, memory: &[u8], at: usize, byte: u8) {
-    let mut change = byte;
-    for cover in COVERS {
-        change ^= noise(cover.saturating_mul(LEVEL_LEN).saturating_add(at));
-    }
-    for cover in COVERS {
-        let place = cover.saturating_mul(LEVEL_LEN).saturating_add(at);
+    let places = COVERS.map(|cover| cover.saturating_mul(LEVEL_LEN).saturating_add(at));
+    let change = places.iter().fold(byte, |sum, place| sum ^ noise(*place));
+    for place in places {
         let wanted = noise(place) ^ change;
-        let came = memory.get(place).copied().unwrap_or(0);
-        tally.expect("a cover's byte", (came == wanted) as usize, 1);
+        tally.expect("a cover's byte", memory.get(place).copied(), Some(wanted));
     }
-    let came = memory.get(at).copied().unwrap_or(0);
-    tally.expect("cover 0", came as usize, noise(at) as usize);
+    tally.expect("cover 0", memory.get(at).copied(), Some(noise(at)));
 }

@@ -1,23 +1,22 @@
 // What four keys show of four covers, and a put under one of them.
-use crate::expected::{ACCEPTED, fetch, lay_out_four, put};
+use crate::expected::{agrees, lay_out_four};
 use std::io;
 use store::image::Image;
 use store::interface::Store;
 use tally::Tally;
 use wallet::wallet::Wallet;
 
-pub fn all(rt: &HostRuntime) -> io::Result<bool> {
-    let mut tally = Tally::new();
+pub fn all(rt: &HostRuntime, tally: &mut Tally) -> io::Result<()> {
     let mut memory = [0; 8192];
     memory[0] = 0x10;
     memory[2048] = 0x22;
     memory[4096] = 0x35;
     memory[6144] = 0x4f;
     let mut wallet = Wallet::new(Image::new(&mut memory));
-    work(&mut tally, &mut wallet);
+    work(tally, &mut wallet);
     drop(wallet);
     for (place, byte) in [(0, 0x56), (2048, 0x64), (4096, 0x73), (6144, 0x4f)] {
-        tally.expect("a cover's first byte", memory[place] as usize, byte);
+        tally.expect("a cover's first byte", memory[place], byte);
     }
     tally.report(rt, "four covers worked by hand")
 }
@@ -28,14 +27,19 @@ fn work<S: Store>(tally: &mut Tally, wallet: &mut Wallet<S>) {
     show(tally, wallet, [0x07, 0x58, 0x7d, 0x6a]);
     let mut contents = [0; 512];
     contents[0] = 0x41;
-    put(tally, wallet, 0, 0, &contents, ACCEPTED);
+    agrees(tally, "put", wallet.level_put(0, 0, &contents), Ok(()));
     show(tally, wallet, [0x41, 0x58, 0x7d, 0x6a]);
 }
 
-fn show<S: Store>(tally: &mut Tally, wallet: &mut Wallet<S>, bytes: [usize; 4]) {
-    for level in 0..4 {
+fn show<S: Store>(tally: &mut Tally, wallet: &mut Wallet<S>, bytes: [u8; 4]) {
+    for (level, byte) in bytes.into_iter().enumerate() {
         let mut buffer = [0; 512];
-        fetch(tally, wallet, level, 0, &mut buffer, ACCEPTED);
-        tally.expect("a level's first byte", buffer[0] as usize, bytes[level]);
+        agrees(
+            tally,
+            "fetch",
+            wallet.level_fetch(level, 0, &mut buffer),
+            Ok(()),
+        );
+        tally.expect("a level's first byte", buffer[0], byte);
     }
 }

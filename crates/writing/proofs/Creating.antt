@@ -57,21 +57,13 @@ module _ (v : List Block) (e : ℕ) where
 
   -- it is one more
   module _ (past : entry_count v ≤ e) where
-    room_past : with_room v e ≡ with_inode (cond (needs_block (entry_count v) e) (with_new_block v) v) 1 (lengthened v (directory_blocks v e))
+    pub room_past : with_room v e ≡ with_inode (cond (needs_block (entry_count v) e) (with_new_block v) v) 1 (lengthened v (directory_blocks v e))
     unfolding with_room
     room_past = cond-false (ltb e (entry_count v)) v _ (le-ltb e (entry_count v) past)
-
-    pub room_inside : needs_block (entry_count v) e ≡ false → with_inode v 1 (lengthened v (directory_blocks v e)) ≡ with_room v e
-    room_inside need = sym (room_past ∙ ap (λ w. with_inode w 1 (lengthened v (directory_blocks v e))) (cond-false (needs_block (entry_count v) e) (with_new_block v) v need))
 
     -- it is inside the last block
     inside : needs_block (entry_count v) e ≡ false → e % 32 ≡ 0 → ⊥
     inside need full = both_ways (needs_block (entry_count v) e) need (and_from (leb (entry_count v) e) (eqb (e % 32) 0) (le-leb (entry_count v) e past) (eq-eqb (e % 32) 0 full))
-
-    -- in a new block
-    module _ (need : needs_block (entry_count v) e ≡ true) where
-      pub room-new : with_inode (with_new_block v) 1 (lengthened v (directory_blocks v e)) ≡ with_room v e
-      room-new = sym (room_past ∙ ap (λ w. with_inode w 1 (lengthened v (directory_blocks v e))) (cond-true (needs_block (entry_count v) e) (with_new_block v) v need))
 
   module _ (need : needs_block (entry_count v) e ≡ true) where
     pub blocks-new : set (inode_of v 1).addresses (e / 32) (next_free (super_of v)) ≡ directory_blocks v e

@@ -1,5 +1,6 @@
 pub mod Counting
 pub mod Creating
+pub mod Opening
 pub mod Removing
 pub mod Rewriting
 pub mod Room

@@ -1,5 +1,7 @@
 -- A file removed, block by block, and the questions that remove asks.
-use Rattle.std.proofs.Common.{◌≡◌, ℕ, ◌/◌, ◌<◌, true, List, length, get_or, set, Ok, Err, Result, ap, ◌∙◌, arith}
+use Rattle.std.proofs.Common.{◌≡◌, ℕ, ◌/◌, ◌<◌, true, List, length, get_or, set, replicate, Ok, Err, Result, sym, ap, ◌∙◌, arith}
+use Rattle.std.proofs.lemmas.List.{ext_get_or, get_or-replicate}
+use Rattle.std.specs.Array.{AllOfLen}
 use Rattle.faults.specs.Faults.{bare}
 use Rattle.store.specs.Stores.{Block, Mark}
 use Rattle.faults.specs.declared.Fault.{Fault}
@@ -18,6 +20,17 @@ use Rattle.reading.specs.declared.file.File.{File}
 use Rattle.writing.specs.Removes.{zero_inode, removed, remove_asked}
 use Rattle.allotment.specs.Volumes.{with_inode, with_entry_number}
 use Rattle.writing.specs.Writes.{given_back}
+
+-- the default inode is that of zeros
+eight_zeros : (xs : List ℕ) → AllOfLen (λ x. x ≡ 0) xs 8 → xs ≡ replicate 8 0
+eight_zeros xs all = ext_get_or 0 xs (replicate 8 0) all.long (λ j lt. all.at j 0 (omega (arith, all.long)) ∙ sym (get_or-replicate 8 j 0 0 (omega (arith, all.long))))
+
+pub zeros-default : (i : Inode) → (i.mode ≡ 0) × ((i.links ≡ 0) × ((i.user ≡ 0) × ((i.group ≡ 0) × ((i.size ≡ 0) × (AllOfLen (λ x. x ≡ 0) i.addresses 8 × AllOfLen (λ x. x ≡ 0) i.times 8))))) → i ≡ zero_inode
+zeros-default i is =
+    let addresses = eight_zeros i.addresses is.1.1.1.1.1.0 in
+    let times = eight_zeros i.times is.1.1.1.1.1.1 in
+    let all : ◌≡◌ {A = Inode} (record { mode = i.mode; links = i.links; user = i.user; group = i.group; size = i.size; addresses = i.addresses; times = i.times }) zero_inode = cc in
+    all
 
 -- the block of an entry is in the volume
 pub entry-there : (v : List Block) → RulesHold v → (e : ℕ) → e < entry_count v → get_or (inode_of v 1).addresses (e / 32) 0 < length v

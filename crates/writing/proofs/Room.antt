@@ -1,6 +1,7 @@
 -- Room in the free list of a sound volume for the blocks of a file, and what is taken from it.
 use Rattle.std.proofs.Common.{◌≡◌, ℕ, zero, suc, ◌+◌, ◌-◌, ◌*◌, ◌<◌, ◌≤◌, true, false, not, ◌&&◌, ◌||◌, eqb, ltb, leb, List, ◌++◌, reverse, length, get_or, replicate, sym, refl, ap, ◌∙◌, subst, ⊎_elim, arith}
 use Rattle.std.proofs.lemmas.List.{length-take-le, length-reverse, length-append, get_or-take, get_or-reverse, get_or_append_left, get_or-append-add, get_or-append_right}
+use Rattle.std.proofs.lemmas.List.Folds.{list_all_at}
 use Rattle.std.proofs.lemmas.Bool.{and_parts, and_left, lt-leb, eqb-true, cases_Bool, cases_lt, both_ways, cond-true}
 use Rattle.store.specs.Stores.{Block}
 use Rattle.layout.proofs.Reading.{length-words_at}
@@ -43,7 +44,8 @@ module _ (v : List Block) (sound : RulesHold v) where
       let parts = and_parts (leb 1 (nfree_of b) && leb (nfree_of b) 100) (eqb (free_at b 0) 0 && (all_data (isize_of b) (length v) (free_list b) && different (free_list b))) sound.free_places in
       let rest = and_parts (eqb (free_at b 0) 0) (all_data (isize_of b) (length v) (free_list b) && different (free_list b)) parts.1 in
       let all = (and_parts (all_data (isize_of b) (length v) (free_list b)) (different (free_list b)) rest.1).0 in
-      every-at (λ k. is_data (isize_of b) (length v) (get_or (free_list b) k 0)) (length (free_list b)) j within all
+      let passes = is_data (isize_of b) (length v) in
+      ⊎_elim (λ is. is) (λ stray. absurd (both_ways (all_data (isize_of b) (length v) (free_list b)) (list_all_at passes (free_list b) j 0 within stray) all)) (cases_Bool (passes (get_or (free_list b) j 0)))
 
   pub nfree_range : (1 ≤ nfree_of (super_of v)) × (nfree_of (super_of v) ≤ 100)
   nfree_range = nfree_from (super_of v) (length v) sound.free_places

@@ -1,6 +1,6 @@
 -- The questions of write, one after the other.
-use Rattle.std.proofs.Common.{◌≡◌, ℕ, ◌<◌, ◌≤◌, true, false, leb, List, length, Ok, Err, Result, ap, ◌∙◌}
-use Rattle.std.proofs.lemmas.Bool.{le-leb, lt-leb}
+use Rattle.std.proofs.Common.{◌≡◌, ℕ, ◌≤◌, true, false, leb, List, length, Ok, Err, Result, ap, ◌∙◌}
+use Rattle.std.proofs.lemmas.Bool.{le-leb}
 use Rattle.faults.specs.Faults.{bare}
 use Rattle.store.specs.Stores.{Block, Mark}
 use Rattle.faults.specs.declared.Fault.{Fault}
@@ -21,15 +21,9 @@ module _ (v : List Block) (marks : List Mark) (name contents : List ℕ) where
   abbrev from_open : Result (Unit {0}) Fault → Result File Fault
   from_open opened = followed_by opened (from_file (file_named v name))
 
-  pub write_unlawful : lawful name ≡ false → write_asked v marks name contents ≡ Err (bare NameLawful)
-  write_unlawful is = ap (λ b. asks b (bare NameLawful) (asks (leb (length contents) 4096) (bare LengthWithinLimit) (from_open (open_answer v marks)))) is
-
   module _ (named : lawful name ≡ true) where
     past_name : write_asked v marks name contents ≡ asks (leb (length contents) 4096) (bare LengthWithinLimit) (from_open (open_answer v marks))
     past_name = ap (λ b. asks b (bare NameLawful) (asks (leb (length contents) 4096) (bare LengthWithinLimit) (from_open (open_answer v marks)))) named
-
-    pub write_long : 4096 < length contents → write_asked v marks name contents ≡ Err (bare LengthWithinLimit)
-    write_long long = past_name ∙ ap (λ b. asks b (bare LengthWithinLimit) (from_open (open_answer v marks))) (lt-leb (length contents) 4096 long)
 
     module _ (short : length contents ≤ 4096) where
       past-length : write_asked v marks name contents ≡ from_open (open_answer v marks)

@@ -1,15 +1,13 @@
 // The contents of a file replaced.
-ghost use Rattle.std.specs.Prelude.{◌≡◌, ◌+◌, ◌≤◌, true, length, is_ok, None};
-ghost use Rattle.store.specs.Stores.{all_live};
+ghost use Rattle.std.specs.Prelude.{◌≡◌, ◌+◌, ◌≤◌, true, length};
+ghost use Rattle.store.specs.Lives.{Leads};
 ghost use Rattle.layout.specs.Inodes.{blocks_for};
 ghost use Rattle.layout.specs.Superblocks.{nfree_of};
-ghost use Rattle.volume.specs.Rules.{super_of};
-ghost use Rattle.volume.specs.Soundness.{first_broken};
 ghost use Rattle.reading.specs.Found.{FileIn};
-ghost use Rattle.allotment.specs.Calls.{Leads, Served};
+ghost use Rattle.allotment.specs.Calls.{Served};
+ghost use Rattle.writing.specs.Changes.{IsSoundWith};
 ghost use Rattle.writing.specs.Writes.{given_back, super_rewritten, inode_rewritten, written, enough_blocks, write_call};
 
-use allotment::blocks::put_block;
 use allotment::contents::{MAX_FILE, blocks_for, put_contents};
 use allotment::free::{give_back, take_blocks};
 use allotment::records::put_inode;
@@ -19,7 +17,9 @@ use layout::name::is_lawful;
 use layout::superblock::nfree_of;
 use reading::file::{File, find_file};
 use store::interface::{Block, Store};
+use store::liveness::LiveMut;
 use volume::check::open;
+use volume::loaded::Volume;
 
 // Whether there are free blocks enough for a file of that size, the file's own included.
 fn has_enough_blocks(superblock: &Block, inode: &Inode, size: usize) -> bool
@@ -29,7 +29,7 @@ fn has_enough_blocks(superblock: &Block, inode: &Inode, size: usize) -> bool
     ensures { result ≡ enough_blocks superblock.now inode.now size }
 {
     let free = nfree_of(superblock) as usize - 1;
-    blocks_for(size) <= free + blocks_for(inode.size as usize)
+    blocks_for(size) <= free + inode.block_count()
 }
 
 // Gives back the blocks of a file, from last to first.
@@ -39,9 +39,7 @@ pub(crate) fn give_file_back(superblock: &mut Block, inode: &Inode)
     ensures after { superblock.new ≡ given_back superblock.old inode.now }
     ensures count { nfree_of superblock.new ≡ nfree_of superblock.old + blocks_for inode.now.size }
 {
-    let n = blocks_for(inode.size as usize);
-    let addresses = inode.addresses;
-    give_back(superblock, &addresses[0..n]);
+    give_back(superblock, &inode.addresses[..inode.block_count()]);
 }
 
 // Gives back the blocks of a file and takes new ones for that size; the inode's size and addresses are replaced, and all else stays.
@@ -63,26 +61,19 @@ fn resize(superblock: &mut Block, inode: Inode, size: usize) -> Inode
     }
 }
 
-// Puts the superblock, the contents and the inode of a rewritten file, each block once.
-fn rewrite<S: Store>(
-    store: &mut S,
-    superblock: &Block,
-    file: &File,
-    contents: &[u8],
-) -> Result<(), Fault>
-    requires live { is_ok (all_live (S.Store.marks store.old)) ≡ true }
-    requires sound { first_broken (S.Store.blocks store.old) ≡ None }
-    requires read { superblock.now ≡ super_of (S.Store.blocks store.old) }
-    requires found { FileIn (S.Store.blocks store.old) file.now }
+// Puts the superblock, the contents and the inode of a rewritten file, each block once. The volume is sound until the first put.
+fn rewrite<S: Store>(live: &mut LiveMut<'_, S>, volume: &Volume, file: &File, contents: &[u8])
+    requires sound { IsSoundWith (S.Store.blocks live.old.store.now) volume.now }
+    requires found { FileIn (S.Store.blocks live.old.store.now) file.now }
     requires fits { length contents.now ≤ 4096 }
-    requires enough { enough_blocks (super_of (S.Store.blocks store.old)) file.now.inode (length contents.now) ≡ true }
-    ensures { Leads S.Store.blocks S.Store.marks S.Store.moved (written (S.Store.blocks store.old) contents.now file.now) store.old store.new result }
+    requires enough { enough_blocks volume.now.superblock file.now.inode (length contents.now) ≡ true }
+    ensures { Leads S.Store.blocks S.Store.moved (written (S.Store.blocks live.old.store.now) contents.now file.now) live.old.store live.new.store }
 {
-    let mut superblock = *superblock;
+    let mut superblock = volume.superblock;
     let inode = resize(&mut superblock, file.inode, contents.len());
-    put_block(store, 1, &superblock)?;
-    put_contents(store, &inode.addresses, contents)?;
-    put_inode(store, file.number, &inode)
+    live.put(1, &superblock);
+    put_contents(live, &inode.addresses, contents);
+    put_inode(live, file.number, &inode);
 }
 
 // Replaces the whole contents of the file of that name, or nothing.
@@ -90,15 +81,17 @@ pub fn write<S: Store>(store: &mut S, name: &[u8], contents: &[u8]) -> Result<()
     ensures { Served S.Store.blocks S.Store.marks S.Store.moved (write_call (S.Store.blocks store.old) (S.Store.marks store.old) name.now contents.now) store.old store.new result }
 {
     if !is_lawful(name) {
-        return Err(Fault::bare(Question::NameLawful));
+        return Err(Fault::from(Question::NameLawful));
     }
     if contents.len() > MAX_FILE {
-        return Err(Fault::bare(Question::LengthWithinLimit));
+        return Err(Fault::from(Question::LengthWithinLimit));
     }
     let volume = open(store)?;
-    let file = find_file(store, &volume, name)?;
-    if !has_enough_blocks(&volume.superblock, &file.inode, contents.len()) {
-        return Err(Fault::bare(Question::EnoughFreeBlocks));
+    let file = find_file(&volume, name)?;
+    if !has_enough_blocks(&volume.read.superblock, &file.inode, contents.len()) {
+        return Err(Fault::from(Question::EnoughFreeBlocks));
     }
-    rewrite(store, &volume.superblock, &file, contents)
+    let read = volume.read;
+    rewrite(&mut LiveMut { store }, &read, &file, contents);
+    Ok(())
 }

@@ -1,11 +1,7 @@
 -- How a text lies in the blocks of a store.
-use Rattle.std.specs.Prelude.{◌≡◌, ℕ, ◌-◌, ◌<◌, ◌≤◌, false, List, [], ◌++◌, length, take, replicate, is_ok, Ok, slice_index_or, slice_set}
+use Rattle.std.specs.Prelude.{◌≡◌, ℕ, ◌<◌, ◌≤◌, false, List, [], is_ok, Ok, slice_index_or, slice_set}
 use Rattle.std.specs.List.{flat_map}
 use Rattle.store.specs.Stores.{Block, Mark, asked}
-
--- The first 512 bytes of a text, filled up with zeros.
-abbrev pub padded_to : List ℕ → Block
-padded_to text = take 512 text ++ replicate (512 - length text) 0
 
 -- The contents lie in block n, the first from `from` on that took them.
 pub record Laid (marks : List Mark) (before after : List Block) (from : ℕ) (contents : Block) (n : ℕ) : Type 0 where

@@ -1,24 +1,16 @@
 // A text laid into a store block by block, past what is dead, and read back.
 ghost use Rattle.std.specs.Prelude.{◌≡◌, false, is_ok, IfOk};
-ghost use Rattle.zobintal.specs.Filing.{padded_to, Laid, gathered};
+ghost use Rattle.zobintal.specs.Filing.{Laid, gathered};
 
 use anyhow::anyhow;
 use faults::Fault;
+use std::alloc::Global;
 use store::interface::{BLOCK_SIZE, Block, Store};
-
-// The bytes of one block, filled up with zeros. What does not fit is left out.
-pub fn padded(part: &[u8]) -> Block
-    ensures { result ≡ padded_to part.now }
-{
-    let mut block = [0; 512];
-    let len = part.len().min(BLOCK_SIZE);
-    block[0..len].copy_from_slice(&part[0..len]);
-    block
-}
+use store::padding::padded;
 
 // Puts the contents into the first block from `from` on that takes them, showing each refusal, and answers its number.
-pub fn lay_block<S: Store, R: Print>(
-    rt: &R,
+pub fn lay_block<S: Store>(
+    rt: &impl Print,
     store: &mut S,
     from: usize,
     contents: &Block,
@@ -36,7 +28,11 @@ pub fn lay_block<S: Store, R: Print>(
 }
 
 // The text laid from block 0 on: which blocks hold it, in order.
-pub fn lay<S: Store>(rt: &HostRuntime, store: &mut S, text: &[u8]) -> anyhow::Result<Vec<usize>> {
+pub fn lay<S: Store>(
+    rt: &(impl Print + AllocGlobal),
+    store: &mut S,
+    text: &[u8],
+) -> anyhow::Result<Vec<usize>> {
     let mut places = Vec::new(rt.alloc());
     let mut next = 0usize;
     for part in text.chunks(BLOCK_SIZE) {
@@ -50,10 +46,10 @@ pub fn lay<S: Store>(rt: &HostRuntime, store: &mut S, text: &[u8]) -> anyhow::Re
 }
 
 // The blocks at the places, one after the other.
-pub fn read_back<S: Store>(rt: &HostRuntime, store: &S, places: &[usize]) -> anyhow::Result<Vec<u8>>
+pub fn read_back<S: Store>(alloc: Global, store: &S, places: &[usize]) -> anyhow::Result<Vec<u8>>
     ensures { IfOk result (λ bytes. bytes.items ≡ gathered (S.Store.blocks store.now) places.now) }
 {
-    let mut bytes = Vec::new(rt.alloc());
+    let mut bytes = Vec::new(alloc);
     let mut block = [0; 512];
     for n in places {
         store.fetch(*n, &mut block)?;

@@ -5,7 +5,7 @@ mod filing;
 mod opening;
 mod price_list;
 
-use anyhow::anyhow;
+use anyhow::{anyhow, ensure};
 use filing::{lay, read_back};
 use opening::open_levels;
 use price_list::PRICE_LIST;
@@ -19,7 +19,7 @@ fn main(rt: HostRuntime) -> anyhow::Result<()> {
     run(&rt)
 }
 
-fn run(rt: &HostRuntime) -> anyhow::Result<()> {
+fn run(rt: &(impl Print + AllocGlobal)) -> anyhow::Result<()> {
     let mut pocket = Pocket::new();
     pocket.condemn(1)?;
     let count = pocket.count();
@@ -43,22 +43,20 @@ fn run(rt: &HostRuntime) -> anyhow::Result<()> {
 }
 
 // Lays the price list into the store, reads it back, compares and prints it.
-fn keep_list<S: Store>(rt: &HostRuntime, store: &mut S) -> anyhow::Result<()> {
+fn keep_list<S: Store>(rt: &(impl Print + AllocGlobal), store: &mut S) -> anyhow::Result<()> {
     let text = PRICE_LIST.as_bytes();
     let len = text.len();
     println!(rt; "Laying a price list of {len} bytes:")?;
     let places = lay(rt, store, text)?;
-    let mut back = read_back(rt, store, places.as_slice())?;
+    let mut back = read_back(rt.alloc(), store, places.as_slice())?;
     back.truncate(len);
-    if back.as_slice() != text {
-        return Err(anyhow!("the list read back is not the list that was laid"));
-    }
+    ensure!(
+        back.as_slice() == text,
+        "the list read back is not the list that was laid"
+    );
     println!(rt; "Read back from blocks {places:?}, it is the same:")?;
     println!(rt)?;
-    let shown = String::from_utf8(back);
-    match shown {
-        Ok(list) => print!(rt; "{list}")?,
-        Err(_) => return Err(anyhow!("the list read back is no text")),
-    }
+    let list = String::from_utf8(back).map_err(|_| anyhow!("the list read back is no text"))?;
+    print!(rt; "{list}")?;
     Ok(())
 }

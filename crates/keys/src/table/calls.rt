@@ -1,30 +1,28 @@
 // The making of a key table, and the calls that bring a key.
-ghost use Rattle.std.specs.Prelude.{◌≡◌, ◌^◌, ◌<◌, true, false, [], ◌∷◌, ◌++◌, length, is_ok};
-ghost use Rattle.keys.specs.Calls.{admitted, add_call, take_call, Leads, SaysFull, Remains};
+ghost use Rattle.std.specs.Prelude.{◌≡◌, ◌^◌, ◌<◌, [], ◌∷◌, ◌++◌, length, OnOk, OnErr};
+ghost use Rattle.keys.specs.Calls.{max_levels, admitted, add_call, take_call, Leads, SaysFull, Remains};
 ghost use Rattle.keys.specs.Keys.{Fits};
 ghost use Rattle.keys.specs.Tables.{standing, covers_of, Made};
 
 use super::KeyTable;
-use crate::algebra::{fits, key_sum, parity, remainder};
+use crate::algebra::{fits, is_odd, key_sum, remainder};
+use arrayvec::ArrayVec;
 use faults::{Fault, Question};
 
 const MIN_COVERS: usize = 2;
 
 const MAX_COVERS: usize = 32;
 
-const MAX_LEVELS: usize = 16;
-
 impl KeyTable {
     // No keys yet, over that many covers.
-    pub fn new(covers: usize) -> Result<KeyTable, Fault>
+    pub fn new(covers: usize) -> Result<Self, Fault>
         ensures { Made covers result }
     {
-        if covers < MIN_COVERS || covers > MAX_COVERS {
-            return Err(Fault::bare(Question::CoversWithinLimits));
+        if !(MIN_COVERS..=MAX_COVERS).contains(&covers) {
+            return Err(Fault::from(Question::CoversWithinLimits));
         }
         Ok(KeyTable {
-            keys: [0; 16],
-            count: 0,
+            keys: ArrayVec::new(),
             covers,
         })
     }
@@ -40,46 +38,45 @@ impl KeyTable {
     pub fn is_full(&self) -> bool
         ensures { SaysFull (covers_of self.now) (standing self.now) result }
     {
-        key_sum(self.standing()) == self.limit() - 1
+        key_sum(&self.keys) == self.limit() - 1
     }
 
     // What is left of a candidate once the standing keys are taken off that share an odd number of ones with it.
     pub fn remainder(&self, candidate: u64) -> u64
         ensures { Remains (standing self.now) candidate result }
     {
-        remainder(self.standing(), candidate)
+        remainder(&self.keys, candidate)
     }
 
     // Questions 8, 9 and 10, which adding and taking a key ask first.
     fn admit(&self, candidate: u64) -> Result<(), Fault>
         ensures answer { result ≡ admitted (covers_of self.now) (standing self.now) candidate }
-        ensures room { is_ok result ≡ true → self.now.count < 16 }
-        ensures below { is_ok result ≡ true → candidate < 2 ^ (covers_of self.now) }
+        ensures room { OnOk result (length (standing self.now) < max_levels) }
+        ensures below { OnOk result (candidate < 2 ^ (covers_of self.now)) }
     {
-        if self.count >= MAX_LEVELS {
-            return Err(Fault::bare(Question::RoomForLevel));
+        if self.keys.is_full() {
+            return Err(Fault::from(Question::RoomForLevel));
         }
         if self.is_full() {
-            return Err(Fault::bare(Question::KeySumOpen));
+            return Err(Fault::from(Question::KeySumOpen));
         }
         if candidate >= self.limit() {
-            return Err(Fault::bare(Question::CandidateBelowLimit));
+            return Err(Fault::from(Question::CandidateBelowLimit));
         }
         Ok(())
     }
 
     // Appends a key that is orthonormal to the standing ones, and answers its level.
     fn append(&mut self, key: u64) -> usize
-        requires room { self.old.count < 16 }
+        requires room { length (standing self.old) < max_levels }
         requires below { key < 2 ^ (covers_of self.old) }
         requires fits { Fits (standing self.old) key }
         ensures answer { result ≡ length (standing self.old) }
         ensures after { standing self.new ≡ standing self.old ++ key ∷ [] }
         ensures covers { covers_of self.new ≡ covers_of self.old }
     {
-        let level = self.count;
-        self.keys[level] = key;
-        self.count = level + 1;
+        let level = self.keys.len();
+        self.keys.push(key);
         level
     }
 
@@ -87,12 +84,12 @@ impl KeyTable {
     pub fn add(&mut self, candidate: u64) -> Result<usize, Fault>
         ensures leads { Leads (add_call (covers_of self.old) (standing self.old) candidate) (standing self.new) result }
         ensures covers { covers_of self.new ≡ covers_of self.old }
-        ensures refused { is_ok result ≡ false → self.new ≡ self.old }
+        ensures refused { OnErr result (self.new ≡ self.old) }
     {
         self.admit(candidate)?;
         let key = self.remainder(candidate);
-        if parity(key) == 0 {
-            return Err(Fault::bare(Question::RemainderOdd));
+        if !is_odd(key) {
+            return Err(Fault::from(Question::RemainderOdd));
         }
         Ok(self.append(key))
     }
@@ -101,11 +98,11 @@ impl KeyTable {
     pub fn take(&mut self, key: u64) -> Result<usize, Fault>
         ensures leads { Leads (take_call (covers_of self.old) (standing self.old) key) (standing self.new) result }
         ensures covers { covers_of self.new ≡ covers_of self.old }
-        ensures refused { is_ok result ≡ false → self.new ≡ self.old }
+        ensures refused { OnErr result (self.new ≡ self.old) }
     {
         self.admit(key)?;
-        if !fits(self.standing(), key) {
-            return Err(Fault::bare(Question::KeyOrthonormal));
+        if !fits(&self.keys, key) {
+            return Err(Fault::from(Question::KeyOrthonormal));
         }
         Ok(self.append(key))
     }

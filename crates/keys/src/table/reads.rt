@@ -8,19 +8,12 @@ use super::KeyTable;
 use faults::{Fault, Question};
 
 impl KeyTable {
-    // The keys in the order of their levels.
-    pub(super) fn standing(&self) -> &[u64]
-        ensures { result.now ≡ standing self.now }
-    {
-        &self.keys[..self.count]
-    }
-
     // How many levels stand.
     pub fn count(&self) -> usize
         ensures answer { result ≡ length (standing self.now) }
         ensures sound { Sound (covers_of self.now) (standing self.now) }
     {
-        self.standing().len()
+        self.keys.len()
     }
 
     pub fn covers(&self) -> usize
@@ -34,11 +27,7 @@ impl KeyTable {
     pub fn key(&self, level: usize) -> Option<u64>
         ensures { result ≡ key_of (standing self.now) level }
     {
-        if level < self.count {
-            Some(self.keys[level])
-        } else {
-            None
-        }
+        self.keys.get(level).copied()
     }
 
     // Writes the keys of the first d levels into the first d places of a list, and answers d.
@@ -46,11 +35,11 @@ impl KeyTable {
         ensures answer { result ≡ (disclose_call d (standing self.now) list.old).0 }
         ensures places { list.new ≡ (disclose_call d (standing self.now) list.old).1 }
     {
-        if d > self.count {
-            return Err(Fault::bare(Question::EnoughLevels));
+        if d > self.count() {
+            return Err(Fault::from(Question::EnoughLevels));
         }
         if d > list.len() {
-            return Err(Fault::bare(Question::EnoughPlaces));
+            return Err(Fault::from(Question::EnoughPlaces));
         }
         list[..d].copy_from_slice(&self.keys[..d]);
         Ok(d)

@@ -1,7 +1,7 @@
 // Choosing a level, and fetch and put of its blocks.
-ghost use Rattle.std.specs.Prelude.{◌≡◌, true, false, is_ok};
+ghost use Rattle.std.specs.Prelude.{◌≡◌, OnOk, OnErr};
 ghost use Rattle.wallet.specs.Wallets as wallets;
-ghost use Rattle.wallet.specs.Wallets.{meaning, not_standing, Opened, choosing, choose_call, fetch_call, put_call, Sparing};
+ghost use Rattle.wallet.specs.Wallets.{meaning, not_standing, Opened, choosing, choose_call, fetch_call, put_call, Called, Sparing};
 
 use super::Wallet;
 use crate::level::Level;
@@ -14,7 +14,7 @@ fn not_standing(level: usize) -> Fault
 {
     Fault {
         level,
-        ..Fault::bare(Question::LevelStanding)
+        ..Fault::from(Question::LevelStanding)
     }
 }
 
@@ -22,44 +22,37 @@ fn not_standing(level: usize) -> Fault
 fn named(answer: Result<(), Fault>, level: usize) -> Result<(), Fault>
     ensures { result ≡ wallets.named level answer }
 {
-    match answer {
-        Ok(()) => Ok(()),
-        Err(fault) => Err(Fault { level, ..fault }),
-    }
+    answer.map_err(|fault| Fault { level, ..fault })
 }
 
 impl<S: Store> Wallet<S> {
     // The level, which is then chosen, if it stands.
     fn open(&mut self, level: usize) -> Result<Level, Fault>
-        ensures answer { Opened (meaning S.Store.blocks S.Store.marks self.old) level result }
-        ensures after { meaning S.Store.blocks S.Store.marks self.new ≡ choosing level (meaning S.Store.blocks S.Store.marks self.old) }
+        ensures answer { Opened (meaning S.Store self.old) level result }
+        ensures after { meaning S.Store self.new ≡ choosing level (meaning S.Store self.old) }
         ensures store { self.new.store ≡ self.old.store }
     {
-        let Some(layout) = self.layout else {
-            return Err(not_standing(level));
-        };
-        let Some(opened) = layout.level(level) else {
-            return Err(not_standing(level));
-        };
+        let opened = self
+            .layout
+            .as_ref()
+            .and_then(|layout| layout.level(level))
+            .ok_or(not_standing(level))?;
         self.chosen = Some(level);
         Ok(opened)
     }
 
     // Chooses a level.
     pub fn choose(&mut self, level: usize) -> Result<(), Fault>
-        ensures answer { result ≡ (choose_call (meaning S.Store.blocks S.Store.marks self.old) level).0 }
-        ensures after { meaning S.Store.blocks S.Store.marks self.new ≡ (choose_call (meaning S.Store.blocks S.Store.marks self.old) level).1 }
-        ensures store { self.new.store ≡ self.old.store }
+        ensures { Called S.Store (λ w. choose_call w level) self.old self.new result }
     {
-        let _chosen = self.open(level)?;
-        Ok(())
+        self.open(level).map(|_| ())
     }
 
     // Fills the buffer with block b of a level.
     pub fn level_fetch(&mut self, level: usize, b: usize, buffer: &mut Block) -> Result<(), Fault>
-        ensures answer { result ≡ (fetch_call (meaning S.Store.blocks S.Store.marks self.old) level b buffer.old).0 }
-        ensures buffer { buffer.new ≡ (fetch_call (meaning S.Store.blocks S.Store.marks self.old) level b buffer.old).1 }
-        ensures after { meaning S.Store.blocks S.Store.marks self.new ≡ (fetch_call (meaning S.Store.blocks S.Store.marks self.old) level b buffer.old).2 }
+        ensures answer { result ≡ (fetch_call (meaning S.Store self.old) level b buffer.old).0 }
+        ensures buffer { buffer.new ≡ (fetch_call (meaning S.Store self.old) level b buffer.old).1 }
+        ensures after { meaning S.Store self.new ≡ (fetch_call (meaning S.Store self.old) level b buffer.old).2 }
         ensures store { self.new.store ≡ self.old.store }
     {
         let opened = self.open(level)?;
@@ -68,11 +61,11 @@ impl<S: Store> Wallet<S> {
 
     // Makes block b of a level equal to the contents.
     pub fn level_put(&mut self, level: usize, b: usize, contents: &Block) -> Result<(), Fault>
-        ensures answer { result ≡ (put_call (meaning S.Store.blocks S.Store.marks self.old) level b contents.now).0 }
-        ensures after { meaning S.Store.blocks S.Store.marks self.new ≡ (put_call (meaning S.Store.blocks S.Store.marks self.old) level b contents.now).1 }
-        ensures moves { S.Store.moved self.old.store self.new.store }
-        ensures refused { is_ok result ≡ false → self.new.store ≡ self.old.store }
-        ensures spares { is_ok result ≡ true → Sparing (meaning S.Store.blocks S.Store.marks self.old) (meaning S.Store.blocks S.Store.marks self.new) level b contents.now }
+        ensures answer { result ≡ (put_call (meaning S.Store self.old) level b contents.now).0 }
+        ensures after { meaning S.Store self.new ≡ (put_call (meaning S.Store self.old) level b contents.now).1 }
+        ensures moves { S.moved self.old.store self.new.store }
+        ensures refused { OnErr result (self.new.store ≡ self.old.store) }
+        ensures spares { OnOk result (Sparing (meaning S.Store self.old) (meaning S.Store self.new) level b contents.now) }
     {
         let opened = self.open(level)?;
         named(opened.put(&mut self.store, b, contents), level)

@@ -1,6 +1,6 @@
 // The making of a wallet, what it tells of itself, and the laying out of its covers.
 ghost use Rattle.std.specs.Prelude.{◌≡◌, [], None};
-ghost use Rattle.wallet.specs.Wallets.{meaning, no_covers, covers_in, keys_in, lay_out_call};
+ghost use Rattle.wallet.specs.Wallets.{no_covers, covers_in, keys_in, lay_out_call, Called};
 
 use super::Wallet;
 use crate::layout::Layout;
@@ -26,12 +26,7 @@ impl<S: Store> Wallet<S> {
     pub fn into_store(self) -> S
         ensures { result ≡ self.store }
     {
-        let Wallet {
-            store,
-            layout: _,
-            chosen: _,
-        } = self;
-        store
+        self.store
     }
 
     // The level that was chosen last, if any was.
@@ -43,16 +38,14 @@ impl<S: Store> Wallet<S> {
 
     // Lays out k covers of n blocks each.
     pub fn lay_out(&mut self, k: usize, n: usize) -> Result<(), Fault>
-        ensures answer { result ≡ (lay_out_call (meaning S.Store.blocks S.Store.marks self.old) k n).0 }
-        ensures after { meaning S.Store.blocks S.Store.marks self.new ≡ (lay_out_call (meaning S.Store.blocks S.Store.marks self.old) k n).1 }
-        ensures store { self.new.store ≡ self.old.store }
+        ensures { Called S.Store (λ w. lay_out_call w k n) self.old self.new result }
     {
         if self.layout.is_some() {
-            return Err(Fault::bare(Question::NoCoversYet));
+            return Err(Fault::from(Question::NoCoversYet));
         }
         let layout = Layout::new(k, n)?;
         if self.store.count() < layout.total() {
-            return Err(Fault::bare(Question::EnoughStoreBlocks));
+            return Err(Fault::from(Question::EnoughStoreBlocks));
         }
         self.layout = Some(layout);
         Ok(())

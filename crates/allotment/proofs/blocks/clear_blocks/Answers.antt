@@ -7,13 +7,13 @@ use Rattle.allotment.proofs.blocks.clear_blocks.Goals as goal
 
 pub loop-n-init : goal.loop-n-init
 loop-n-init g c =
-    let s = c.args.store.now in
-    leads_to g.S.Store.laws (sym (cleared-none (g.S.Store.blocks s) c.args.low)) (leads_none g.S.Store.laws s)
+    let s = c.args.live.now.store in
+    leads_to g.S.Store.laws (sym (cleared-none (g.S.Store.blocks s.now) c.args.low)) (leads_none g.S.Store.laws s)
 
 pub loop-n-preserved : goal.loop-n-preserved
 unfolding zero_block
 loop-n-preserved g c =
-    let v = g.S.Store.blocks c.args.store.now in
+    let v = g.S.Store.blocks c.args.live.now.store.now in
     let sofar = c.loop-n.invariant in
     let more = ap (λ w. set w c.loop-n.n zero_block) sofar.after ∙ cleared_more v c.args.low c.loop-n.n (omega arith) in
-    leads_to g.S.Store.laws more (leads_join g.S.Store.laws sofar c.in_ok-put_block.ensures)
+    leads_to g.S.Store.laws more (leads_join g.S.Store.laws sofar c.put.ensures)

@@ -1,36 +1,50 @@
 -- One block more, and all of them.
-use Rattle.std.proofs.Common.{◌≡◌, length, get_or, set, sym, ap, ◌∙◌, arith}
-use Rattle.layout.specs.Inodes.{blocks_for}
-use Rattle.allotment.proofs.Laying.{laid_none, laid_more}
-use Rattle.allotment.proofs.Leading.{leads_none, leads_to, leads_join, still_live, still_long}
+use Rattle.std.proofs.Common.{◌≡◌, ◌+◌, ◌*◌, [], ◌∷◌, ◌++◌, length, get_or, drop, set, sym, ap, ◌∙◌, arith, rules}
+use Rattle.std.proofs.lemmas.List.{length_push}
+use Rattle.allotment.proofs.Laying.{laid_none, laid_more, next_item, next_rest, next_part, next_few}
+use Rattle.allotment.proofs.Leading.{leads_none, leads_to, leads_join, still_long}
 use Rattle.allotment.specs.Volumes.{laid}
 use Rattle.allotment.proofs.contents.put_contents.Goals as goal
 
-pub loop-j-init : goal.loop-j-init
-loop-j-init g c =
-    let s = c.args.store.now in
-    leads_to g.S.Store.laws (sym (laid_none (g.S.Store.blocks s) c.args.addresses.now c.args.contents.now)) (leads_none g.S.Store.laws s)
-
-pub put_block-requires : goal.put_block-requires
-put_block-requires g c =
-    let laws = g.S.Store.laws in
+pub loop-bytes-init : goal.loop-bytes-init
+loop-bytes-init g c =
+    let s = c.args.live.now.store in
     record {
-      live = still_live laws c.loop-j.invariant c.requires.live;
-      within = omega (arith, still_long laws c.loop-j.invariant, c.requires.there c.loop-j.j (omega arith));
+      size = search rules;
+      rest = search rules;
+      numbers = search rules;
+      few = search rules;
+      leads = leads_to g.S.Store.laws (sym (laid_none (g.S.Store.blocks s.now) c.args.addresses.now c.args.contents.now)) (leads_none g.S.Store.laws s);
     }
 
-pub loop-j-preserved : goal.loop-j-preserved
-loop-j-preserved g c =
+pub put-requires : goal.put-requires
+put-requires g c =
+    let sofar = c.loop-bytes.invariant in
+    let steps = c.in-Some.ensures.steps in
+    let k = length c.loop-bytes.yielded in
+    let item = next_item c.args.addresses.now _ _ k c.in-Some.number.now sofar.numbers steps.1 in
+    let few = next_few c.args.contents.now _ c.in-Some.bytes.now _ k sofar.rest steps.0.1.0 (rw sofar.size at steps.0.1.1) steps.0.1.2 in
+    omega (arith, item.1, still_long g.S.Store.laws sofar.leads, c.requires.there k few)
+
+pub loop-bytes-preserved : goal.loop-bytes-preserved
+loop-bytes-preserved g c =
     let laws = g.S.Store.laws in
-    let v = g.S.Store.blocks c.args.store.now in
+    let sofar = c.loop-bytes.invariant in
+    let steps = c.in-Some.ensures.steps in
+    let v = g.S.Store.blocks c.args.live.now.store.now in
     let numbers = c.args.addresses.now in
     let contents = c.args.contents.now in
-    let j = c.loop-j.j in
-    let more = ap (λ w. set w (get_or numbers j 0) c.contents_block-block.result) c.loop-j.invariant.after ∙ ap (set (laid v numbers contents j) (get_or numbers j 0)) c.contents_block-block.ensures ∙ laid_more v numbers contents j in
-    leads_to laws more (leads_join laws c.loop-j.invariant c.in_ok-put_block.ensures)
-
-pub returns : goal.returns
-returns g c =
-    let v = g.S.Store.blocks c.args.store.now in
-    let all : c.loop-j.j ≡ blocks_for (length c.args.contents.now) = omega arith in
-    leads_to g.S.Store.laws (ap (laid v c.args.addresses.now c.args.contents.now) all) c.loop-j.invariant
+    let k = length c.loop-bytes.yielded in
+    let more : k + 1 ≡ length (c.loop-bytes.yielded ++ ((c.in-Some.bytes, c.in-Some.number) ∷ [])) = sym (length_push c.loop-bytes.yielded (c.in-Some.bytes, c.in-Some.number)) in
+    let item = next_item numbers _ _ k c.in-Some.number.now sofar.numbers steps.1 in
+    let size = rw sofar.size at steps.0.1.1 in
+    let few = next_few contents _ c.in-Some.bytes.now _ k sofar.rest steps.0.1.0 size steps.0.1.2 in
+    let put = ap (λ w. set w c.in-Some.number.now c.padded.result) sofar.leads.after ∙ ap (λ n. set (laid v numbers contents k) n c.padded.result) item.1
+    ∙ ap (set (laid v numbers contents k) (get_or numbers k 0)) (c.padded.ensures ∙ next_part contents _ c.in-Some.bytes.now _ k sofar.rest steps.0.1.0 size) ∙ laid_more v numbers contents k ∙ ap (laid v numbers contents) more in
+    record {
+      size = steps.0.0 ∙ sofar.size;
+      rest = next_rest contents _ c.in-Some.bytes.now _ k sofar.rest steps.0.1.0 size ∙ ap (λ n. drop (512 * n) contents) more;
+      numbers = item.2 ∙ ap (λ n. drop n numbers) more;
+      few = omega (arith, more, few);
+      leads = leads_to laws put (leads_join laws sofar.leads c.put.ensures);
+    }

@@ -1,27 +1,28 @@
 -- One block more, the last that is left.
-use Rattle.std.proofs.Common.{◌≡◌, ◌+◌, ◌-◌, [], ◌∷◌, ◌++◌, reverse, length, get_or, take, sym, ap, ◌∙◌, arith}
-use Rattle.std.proofs.lemmas.List.{take_all, take_more}
+use Rattle.std.proofs.Common.{◌≡◌, ℕ, [], reverse, length, sym, ap, ◌∙◌, arith, length-append}
+use Rattle.std.proofs.lemmas.List.{nil_from_length}
+use Rattle.std.specs.Slice.Iter.{iter_rest}
 use Rattle.layout.specs.Superblocks.{nfree_of}
 use Rattle.allotment.proofs.FreeLaws.{nfree-given, gives_next}
 use Rattle.allotment.specs.FreeSteps.{gives}
 use Rattle.allotment.proofs.free.give_back.Goals as goal
 
-pub loop-j-init : goal.loop-j-init
-loop-j-init c = (c.told-superblock, c.requires, ap (λ xs. gives c.args.superblock.now (reverse xs)) (take_all (length c.args.numbers.now) c.args.numbers.now (omega arith)))
-
-pub loop-j-preserved : goal.loop-j-preserved
-loop-j-preserved c =
-    let xs = c.args.numbers.now in
-    let b = c.loop-j.superblock in
-    let j = c.loop-j.j - 1 in
-    let next : j + 1 ≡ c.loop-j.j = omega arith in
-    let split : take c.loop-j.j xs ≡ take j xs ++ (get_or xs j 0 ∷ []) = ap (λ k. take k xs) (sym next) ∙ take_more xs j 0 (omega arith) in
-    let more = nfree-given b c.loop-j.invariant.0 (get_or xs j 0) (omega arith) in
+pub loop-number-preserved : goal.loop-number-preserved
+loop-number-preserved c =
+    let b = c.loop-number.superblock in
+    let rest = iter_rest c.next.new.self.iter in
+    let split = c.in-Some.ensures.steps in
+    let left = ap length split in
+    let more = nfree-given b c.loop-number.invariant.long c.in-Some.number.now (omega (arith, length-append {A = ℕ})) in
     let same = ap nfree_of c.give.ensures in
-    (c.give.array_long, omega arith, gives_next b c.give.new.superblock _ (take j xs) (take c.loop-j.j xs) (get_or xs j 0) c.give.ensures split c.loop-j.invariant.2)
+    record {
+      long = c.give.array_long;
+      few = omega (arith, length-append {A = ℕ});
+      same = gives_next b c.give.new.superblock _ rest _ c.in-Some.number.now c.give.ensures split c.loop-number.invariant.same;
+    }
 
 pub returns : goal.returns
 unfolding gives
 returns c =
-    let none : c.loop-j.j ≡ 0 = omega arith in
-    sym (ap (λ k. gives c.loop-j.superblock (reverse (take k c.args.numbers.now))) none) ∙ c.loop-j.invariant.2
+    let none : iter_rest c.loop-number.number-iterator.iter ≡ [] = nil_from_length _ c.in-None.ensures.steps.0 in
+    ap (λ xs. gives c.loop-number.superblock (reverse xs)) (sym none) ∙ c.loop-number.invariant.same

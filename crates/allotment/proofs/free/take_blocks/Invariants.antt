@@ -3,6 +3,9 @@ use Rattle.std.proofs.Common.{◌≡◌, ◌-◌, ◌++◌, length, replicate}
 use Rattle.allotment.specs.FreeSteps.{takes, numbers_taken}
 use Rattle.allotment.proofs.free.take_blocks.Given as goal
 
-abbrev pub invariant-loop-j : goal.invariant-loop-j
-invariant-loop-j l =
-    (length l.superblock ≡ 512) × (l.superblock ≡ takes l.initial.superblock l.j) × (l.addresses ≡ numbers_taken l.initial.superblock l.j ++ replicate (8 - l.j) 0) × (length l.addresses ≡ 8)
+abbrev pub invariant-loop-address : goal.invariant-loop-address
+invariant-loop-address l = record {
+  long : length l.superblock ≡ 512;
+  taken : l.superblock ≡ takes l.initial.superblock l.address-index;
+  numbers : l.address-items ≡ numbers_taken l.initial.superblock l.address-index ++ replicate (l.n - l.address-index) 0;
+}

@@ -1,6 +1,8 @@
--- The worked cases, as they are proved.
-use Rattle.keys.proofs.WorkedCases.{worked_keys}
+-- The worked cases follow from the rules by calculation.
+use Rattle.std.proofs.Common.{rules}
+use lib.Count.{ones, ones_in}
 use Rattle.keys.proofs.worked.worked_keys_stand.Goals as goal
 
 pub returns : goal.returns
-returns c = worked_keys
+unfolding ones ones_in
+returns c = search rules

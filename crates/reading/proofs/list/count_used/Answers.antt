@@ -1,11 +1,15 @@
--- One entry more.
-use Rattle.std.proofs.Common.{length, sym, ap, arith}
+-- How many numbers pass the test.
+use Rattle.std.proofs.Common.{length, ap, ◌∙◌, rules, arith}
+use borrow.Author.Tests.{tests}
+use Rattle.std.proofs.lemmas.Iterator.{YieldsList-from_range}
+use Rattle.std.proofs.lemmas.Iterator.Consumers.{YieldsList-from_filter, count_from_yields_List}
 use Rattle.layout.specs.Entries.{entry_at}
-use Rattle.reading.proofs.Listing.{used_among-none, count-more}
+use Rattle.volume.specs.Directories.{used}
+use Rattle.reading.proofs.Listing.{used_among-filter}
 use Rattle.reading.proofs.list.count_used.Goals as goal
 
-pub loop-e-init : goal.loop-e-init
-loop-e-init c = (sym (ap length (used_among-none (entry_at c.args.directory.now))), omega arith)
-
-pub loop-e-preserved : goal.loop-e-preserved
-loop-e-preserved c = let more = count-more (entry_at c.args.directory.now) c.loop-e.e in (omega arith, omega arith)
+pub returns : goal.returns
+returns c =
+    let d = entry_at c.args.directory.now.bytes in
+    let n = c.args.directory.now.len in
+    count_from_yields_List c.filter.result c.count.result c.count.ensures.ran (YieldsList-from_filter _ (used d) (YieldsList-from_range 0 n n (cc) (omega arith)) c.filter.ensures.closure (λ x b q k. search (rules, tests))) ∙ ap length (used_among-filter d n)

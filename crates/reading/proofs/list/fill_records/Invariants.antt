@@ -7,5 +7,5 @@ use Rattle.reading.proofs.list.fill_records.Given as goal
 
 abbrev pub invariant-loop-e : goal.invariant-loop-e
 invariant-loop-e g l =
-    let v = g.S.Store.blocks l.store in
-    (l.filled ≡ length (used_among (directory_of v) l.e)) × (l.records ≡ records_among v (directory_of v) l.e ++ drop l.filled l.initial.records)
+    let v = g.S.Store.blocks l.volume.live.store.now in
+    record { count : l.filled ≡ length (used_among (directory_of v) l.e); sofar : l.records ≡ records_among v (directory_of v) l.e ++ drop l.filled l.initial.records }

@@ -1,19 +1,13 @@
--- One entry looked at.
-use Rattle.std.proofs.Common.{sym, ap, ◌∙◌}
+-- The first number that passes the test.
+use Rattle.std.proofs.Common.{◌≡◌, true, false, rules}
+use borrow.Author.Tests.{tests}
+use Rattle.std.proofs.lemmas.Iterator.{first_from_Range}
 use Rattle.layout.specs.Entries.{entry_at}
-use Rattle.reading.proofs.Lowests.{lowest-none, lowest-more, lowest-at}
+use Rattle.reading.proofs.Lowests.{lowest-found}
 use Rattle.reading.specs.Lookups.{is_named, field_of}
 use Rattle.reading.proofs.lookup.find_entry.Goals as goal
 
-pub loop-e-init : goal.loop-e-init
-loop-e-init c = lowest-none (is_named (entry_at c.args.directory.now) (field_of c.args.name.now))
-
-pub returns-then-is_named : goal.returns-then-is_named
-returns-then-is_named c =
-    let d = entry_at c.args.directory.now in
-    sym (lowest-at (is_named d (field_of c.args.name.now)) c.args.entries c.loop-e.e c.loop-e-test.true c.loop-e.invariant (ap (λ f. is_named d f c.loop-e.e) (sym c.name_field-field.ensures) ∙ sym c.if-is_named.ensures))
-
-pub loop-e-preserved : goal.loop-e-preserved
-loop-e-preserved c =
-    let d = entry_at c.args.directory.now in
-    lowest-more (is_named d (field_of c.args.name.now)) c.loop-e.e c.loop-e.invariant (ap (λ f. is_named d f c.loop-e.e) (sym c.name_field-field.ensures) ∙ sym c.if-is_named.ensures)
+pub returns : goal.returns
+returns c =
+    let named = is_named (entry_at c.args.directory.now.bytes) (field_of c.args.name.now) in
+    lowest-found named c.args.directory.now.len c.find.result (first_from_Range _ _ _ c.find.result (λ e. named e ≡ true) (λ e. named e ≡ false) c.find.ensures.ran (λ x q k. search (rules, tests)) (λ x q k. search (rules, tests)))

@@ -5,4 +5,4 @@ use Rattle.volume.proofs.contents.load_blocks.Given as goal
 
 abbrev pub invariant-loop-j : goal.invariant-loop-j
 invariant-loop-j g l =
-    (length l.contents ≡ 4096) × (take (512 * l.j) l.contents ≡ file_blocks (g.S.Store.blocks l.store) l.addresses l.j) × (drop (512 * l.n) l.contents ≡ drop (512 * l.n) l.initial.contents)
+    (length l.contents ≡ 4096) × (take (512 * l.j) l.contents ≡ file_blocks (g.S.Store.blocks l.live.store.now) l.addresses l.j) × (drop (512 * l.n) l.contents ≡ drop (512 * l.n) l.initial.contents)

@@ -1,16 +1,13 @@
--- One entry looked at.
-use Rattle.std.proofs.Common.{sym}
+-- The first number that passes the test.
+use Rattle.std.proofs.Common.{◌≡◌, true, false, rules}
+use borrow.Author.Tests.{tests}
+use Rattle.std.proofs.lemmas.Iterator.{first_from_Range}
 use Rattle.layout.specs.Entries.{entry_at}
-use Rattle.reading.proofs.Lowests.{lowest-none, lowest-more, lowest-at}
+use Rattle.reading.proofs.Lowests.{lowest-found}
 use Rattle.writing.specs.Creates.{is_empty}
 use Rattle.writing.proofs.vacancy.find_empty.Goals as goal
 
-pub loop-e-init : goal.loop-e-init
-loop-e-init c = lowest-none (is_empty (entry_at c.args.directory.now))
-
-pub returns-then-is_empty : goal.returns-then-is_empty
-returns-then-is_empty c =
-    sym (lowest-at (is_empty (entry_at c.args.directory.now)) c.args.entries c.loop-e.e c.loop-e-test.true c.loop-e.invariant (sym c.if-is_empty.ensures))
-
-pub loop-e-preserved : goal.loop-e-preserved
-loop-e-preserved c = lowest-more (is_empty (entry_at c.args.directory.now)) c.loop-e.e c.loop-e.invariant (sym c.if-is_empty.ensures)
+pub returns : goal.returns
+returns c =
+    let empty = is_empty (entry_at c.args.directory.now.bytes) in
+    lowest-found empty c.args.directory.now.len c.find.result (first_from_Range _ _ _ c.find.result (λ e. empty e ≡ true) (λ e. empty e ≡ false) c.find.ensures.ran (λ x q k. search (rules, tests)) (λ x q k. search (rules, tests)))

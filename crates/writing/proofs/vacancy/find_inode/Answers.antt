@@ -1,22 +1,17 @@
 -- The inode list is in the volume, and all of it is gone through.
-use Rattle.std.proofs.Common.{◌≡◌, suc, ◌+◌, ◌*◌, length, Ok, ap, ◌∙◌, arith}
+use Rattle.std.proofs.Common.{◌≡◌, suc, ◌+◌, ◌*◌, ap, ◌∙◌, arith}
 use Rattle.layout.specs.Inodes.{inode_of}
-use Rattle.volume.proofs.RuleFacts.{sizes_from}
-use Rattle.volume.proofs.SoundFacts.{rules_hold}
-use Rattle.volume.specs.Rules.{super_of, isize_in}
+use Rattle.layout.specs.Superblocks.{isize_of}
+use Rattle.volume.specs.Rules.{isize_in}
 use Rattle.reading.specs.Lowest.{lowest}
 use Rattle.writing.proofs.Vacancies.{visited-free}
 use Rattle.writing.specs.Creates.{is_free}
 use Rattle.writing.proofs.vacancy.find_inode.Goals as goal
 
-pub visit_inodes-requires : goal.visit_inodes-requires
-visit_inodes-requires g c =
-    let v = g.S.Store.blocks c.args.store.now in
-    let sizes = sizes_from (super_of v) (length v) (rules_hold v c.requires.sound).sizes in
-    record { live = c.requires.live; within = omega (arith, c.requires.read); few = omega (arith, c.requires.read) }
-
 pub returns : goal.returns
 returns g c =
-    let v = g.S.Store.blocks c.args.store.now in
-    let count : suc (16 * c.args.isize) ≡ 16 * isize_in v + 1 = omega (arith, c.requires.read) in
-    ap (λ s. Ok s.found) c.visit_inodes.ensures.after ∙ ap Ok (visited-free v (16 * c.args.isize)) ∙ ap (λ n. Ok (lowest n (λ i. is_free i (inode_of v i)))) count
+    let o = c.args.volume.now in
+    let v = g.S.Store.blocks o.live.store.now in
+    let isize : c.isize_of-isize.result ≡ isize_in v = c.isize_of-isize.ensures ∙ ap isize_of o.loaded.superblock in
+    let count : suc (16 * c.isize_of-isize.result) ≡ 16 * isize_in v + 1 = omega arith in
+    ap (λ s. s.found) c.visit_inodes.ensures ∙ visited-free v (16 * c.isize_of-isize.result) ∙ ap (λ n. lowest n (λ i. is_free i (inode_of v i))) count

@@ -1,5 +1,5 @@
 -- The first addresses, as many as the size takes blocks, are given back.
-use Rattle.std.proofs.Common.{◌≡◌, ◌-◌, ◌≤◌, reverse, length, take, ap, ◌∙◌, arith}
+use Rattle.std.proofs.Common.{◌≡◌, ◌≤◌, reverse, length, take, ap, ◌∙◌, arith}
 use Rattle.std.proofs.lemmas.List.{length-take-le, length-reverse}
 use Rattle.layout.specs.Inodes.{blocks_for}
 use Rattle.layout.specs.Superblocks.{nfree_of}
@@ -13,8 +13,8 @@ unfolding given_back
 returns c =
     let b = c.args.superblock.now in
     let i = c.args.inode.now in
-    let n = c.blocks_for-n.result in
-    let size : n - 0 ≡ blocks_for i.size = omega arith in
+    let n = c.block_count.result in
+    let size : n ≡ blocks_for i.size = omega arith in
     let own = own_blocks i in
     let fits : blocks_for i.size ≤ length i.addresses = omega arith in
     let long = length-take-le (blocks_for i.size) i.addresses fits in

@@ -1,9 +1,9 @@
 -- The remainder by the standing keys.
-use Rattle.std.proofs.Common.{ap, ◌∙◌}
-use Rattle.keys.specs.Keys as keys
-use Rattle.keys.proofs.Tables.{remains}
+use Rattle.std.proofs.Common.{rules}
+use Rattle.keys.proofs.Standing.{remains}
 use Rattle.keys.proofs.table.KeyTable.remainder.Goals as goal
 
 pub returns : goal.returns
 returns c =
-    remains c.args.self.now c.args.candidate c.remainder.result (c.remainder.ensures ∙ ap (λ ks. keys.remainder ks c.args.candidate) c.standing.ensures)
+    let t = c.args.self.now in
+    remains t.covers t.keys.items t.below (record { own = t.own; others = t.others }) c.args.candidate _ (search rules)

@@ -10,4 +10,4 @@ decoded : (i : Inode) (b : List ℕ) (at : ℕ) → ((n : ℕ) → byte_at b n <
 decoded i b at fits within is = record { value = is; bytes = ap inode_bytes is ∙ encode_decode b fits at within }
 
 pub returns : goal.returns
-returns c = decoded _ c.args.block.now c.args.at c.fits-block (omega (arith, c.told-block)) (search rules)
+returns c = decoded _ c.args.block.now c.args.at c.fits-block (omega arith) (search rules)

@@ -1,18 +1,25 @@
 -- The three ways: past the end, the first part, the second part.
-use Rattle.std.proofs.Common.{Err, sym, refl, ap, ◌∙◌}
-use Rattle.store.proofs.StripeCalls.{ask_past, fetch_even, fetch_odd}
+use Rattle.std.proofs.Common.{◌≡◌, rules}
+use Rattle.std.proofs.lemmas.Result.{err_from_is_err_and}
+use Rattle.store.specs.Stripes.{from_part}
+use Rattle.store.proofs.StripeCalls.{fetch_past, fetch_first, fetch_second}
+use Rattle.store.proofs.Turns.{from_part-mapped}
 use Rattle.store.proofs.stripe.StripeStore.fetch.Goals as goal
+use Rattle.store.proofs.stripe.StripeStore.fetch.Goals.{in-First, in-Second}
 
-pub returns-then-n-count : goal.returns-then-n-count
-returns-then-n-count g c = record {
-  answer = ap Err c.past_count.ensures ∙ sym (ask_past g.A.Store.laws g.B.Store.laws c.args.self.now c.args.n c.count.result c.count.ensures c.if-n-count.true);
-  buffer = refl;
-}
+pub returns-in_err-k : goal.returns-in_err-k
+returns-in_err-k g c =
+    let p = err_from_is_err_and c.from_residual.result c.from_residual.ensures.1 in
+    rw (p.1, p.2) (fetch_past g.A.Store.laws g.B.Store.laws c.args.self.now c.args.n _ c.in_err-k.ensures c.args.buffer.now)
 
-pub returns-then-n-eq0 : goal.returns-then-n-eq0
-returns-then-n-eq0 g c =
-    rw c.from_part.ensures (fetch_even g.A.Store.laws g.B.Store.laws c.args.self.now c.args.n c.count.result c.count.ensures c.if-n-count.false c.if-n-eq0.true _ _ _ c.fetch.ensures)
-
-pub returns-else-n-eq0 : goal.returns-else-n-eq0
-returns-else-n-eq0 g c =
-    rw c.from_part-else-n-eq0.ensures (fetch_odd g.A.Store.laws g.B.Store.laws c.args.self.now c.args.n c.count.result c.count.ensures c.if-n-count.false c.if-n-eq0.false _ _ _ c.fetch-else-n-eq0.ensures)
+pub returns : goal.returns
+returns g c =
+    let s = c.args.self.now in
+    let n = c.args.n in
+    let mapped : c.map_err.result ≡ from_part n c.match-branch-2.map_err = from_part-mapped n _ _ (λ f h p. search rules) c.map_err.ensures.cases in
+    elim c.match-branch-2.branch [
+      | in-First w ↦ (let lies = rw w.in-First.is at c.in_ok-k.ensures in
+          rw (mapped, w.map_err-is, w.buffer-is) (fetch_first g.A.Store.laws g.B.Store.laws s n lies.0 lies.1 _ _ _ (rw lies.2 at w.fetch.ensures)))
+      | in-Second w ↦ (let lies = rw w.in-Second.is at c.in_ok-k.ensures in
+          rw (mapped, w.map_err-is, w.buffer-is) (fetch_second g.A.Store.laws g.B.Store.laws s n lies.0 lies.1 _ _ _ (rw lies.2 at w.fetch-in-Second.ensures)))
+    ]

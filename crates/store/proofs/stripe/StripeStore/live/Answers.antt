@@ -1,17 +1,18 @@
--- The three ways: past the end, the first part, the second part.
-use Rattle.std.proofs.Common.{is_ok, sym, ap, ◌∙◌}
-use Rattle.store.proofs.StripeCalls.{ask_past, ask_even, ask_odd}
-use Rattle.store.proofs.Turns.{is_ok-from_part}
+-- The three ways: the first part, the second part, past the end.
+use Rattle.std.proofs.Common.{is_ok, ap, ◌∙◌}
+use Rattle.store.proofs.StripeCalls.{ask_past, live_first, live_second}
 use Rattle.store.proofs.stripe.StripeStore.live.Goals as goal
 
-pub returns-then-n-count : goal.returns-then-n-count
-returns-then-n-count g c =
-    sym (ap is_ok (ask_past g.A.Store.laws g.B.Store.laws c.args.self.now c.args.n c.count.result c.count.ensures c.if-n-count.true))
+pub returns-in-Ok-First : goal.returns-in-Ok-First
+returns-in-Ok-First g c =
+    let lies = rw c.in-Ok-First.field-0-is at c.in-Ok-First.ensures in
+    (rw lies.2 at c.live.ensures) ∙ live_first g.A.Store.laws g.B.Store.laws c.args.self.now c.args.n lies.0 lies.1
 
-pub returns-then-n-eq0 : goal.returns-then-n-eq0
-returns-then-n-eq0 g c =
-    c.live.ensures ∙ sym (ap is_ok (ask_even g.A.Store.laws g.B.Store.laws c.args.self.now c.args.n c.count.result c.count.ensures c.if-n-count.false c.if-n-eq0.true) ∙ is_ok-from_part c.args.n _)
+pub returns-in-Ok-Second : goal.returns-in-Ok-Second
+returns-in-Ok-Second g c =
+    let lies = rw c.in-Ok-Second.field-0-is at c.in-Ok-Second.ensures in
+    (rw lies.2 at c.live-in-Ok-Second.ensures) ∙ live_second g.A.Store.laws g.B.Store.laws c.args.self.now c.args.n lies.0 lies.1
 
-pub returns-else-n-eq0 : goal.returns-else-n-eq0
-returns-else-n-eq0 g c =
-    c.live-else-n-eq0.ensures ∙ sym (ap is_ok (ask_odd g.A.Store.laws g.B.Store.laws c.args.self.now c.args.n c.count.result c.count.ensures c.if-n-count.false c.if-n-eq0.false) ∙ is_ok-from_part c.args.n _)
+pub returns-in-Err : goal.returns-in-Err
+returns-in-Err g c =
+    ap is_ok (ask_past g.A.Store.laws g.B.Store.laws c.args.self.now c.args.n _ c.in-Err.ensures)

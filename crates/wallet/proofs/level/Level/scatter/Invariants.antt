@@ -4,5 +4,7 @@ use Rattle.wallet.proofs.Scattering.{spread_to}
 use Rattle.wallet.proofs.level.Level.scatter.Given as goal
 
 abbrev pub invariant-loop-cover : goal.invariant-loop-cover
-invariant-loop-cover g l =
-    (g.S.Store.blocks l.store ≡ spread_to l.self l.b l.change (g.S.Store.blocks l.initial.store) l.cover) × g.S.Store.moved l.initial.store l.store
+invariant-loop-cover g l = record {
+  changed : g.S.Store.blocks l.store ≡ spread_to l.self l.b l.change (g.S.Store.blocks l.initial.store) l.cover;
+  moves : g.S.Store.moved l.initial.store l.store;
+}

@@ -1,6 +1,0 @@
--- The bit worth 2 to the cover's number.
-use Rattle.wallet.proofs.Covering.{entry-shifted}
-use Rattle.wallet.proofs.level.Level.holds.Goals as goal
-
-pub returns : goal.returns
-returns c = entry-shifted c.args.cover c.args.self.now.key
