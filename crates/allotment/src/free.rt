@@ -7,6 +7,8 @@ use layout::superblock::{free_at, nfree_of};
 use layout::words::set_word;
 use store::interface::Block;
 
+// That so many places are in use stays a clause of each step: no type holds it, as each step changes it.
+
 // The byte of the count of the places in use.
 const NFREE: usize = 4;
 

@@ -58,8 +58,8 @@ pub fn put_entry_number<S: Store>(
     live.change(n, |block| set_word(block, at, number));
 }
 
-// Replaces entry e of the directory. Alike to the function above it, but for the change: a closure for that would stand in the contracts of
-// both.
+// Replaces entry e of the directory. Alike to the function above it but for the change: a helper that takes that as a closure would save two
+// lines, and need a contract and an answer of its own.
 pub fn put_entry<S: Store>(
     live: &mut LiveMut<'_, S>,
     addresses: &[u16; 8],

@@ -2,7 +2,7 @@
 #![tactic(auto)]
 
 ghost use Rattle.std.specs.Prelude.{◌≡◌};
-ghost use Rattle.faults.specs.Faults.{number_of, bare, past_count, dead_block, unsound, renumbered};
+ghost use Rattle.faults.specs.Faults.{number_of, bare, past_count, dead_block, renumbered};
 
 use std::error::Error;
 use std::fmt;
@@ -125,7 +125,7 @@ impl Fault {
     }
 
     // The same refusal, for the block's number in the store that was called.
-    pub fn renumbered(self, block: usize) -> Fault
+    pub const fn renumbered(self, block: usize) -> Fault
         ensures { result ≡ renumbered block self }
     {
         Fault { block, ..self }

@@ -23,7 +23,7 @@ pub struct KeyTable {
     ghost below: { Below covers keys.items },
 }
 
-// A copy holds the same keys over the same covers, and cannot fail.
+// A copy holds the same keys over the same covers, and cannot fail. By hand, since nothing is derived here for a struct with ghost fields.
 impl Clone for KeyTable {
     ghost use Rattle.keys.specs.Tables.{standing, covers_of};
 

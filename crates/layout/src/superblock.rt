@@ -1,5 +1,5 @@
 // The superblock, block 1 of a volume.
-ghost use Rattle.std.specs.Prelude.{◌≡◌, ◌<◌, ◌≤◌};
+ghost use Rattle.std.specs.Prelude.{◌≡◌, ◌<◌};
 ghost use Rattle.layout.specs.Superblocks.{isize_of, fsize_of, nfree_of, free_at, is_data};
 ghost use Rattle.layout.specs.Words.{words_at};
 

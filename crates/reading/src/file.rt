@@ -50,6 +50,6 @@ pub fn find_file<S: Store>(volume: &SoundVolume<'_, S>, name: &[u8]) -> Result<F
     requires { length name.now ≤ 14 }
     ensures { result ≡ file_named (S.Store.blocks volume.now.live.store.now) name.now }
 {
-    let e = find_entry(&volume.read.directory, name).ok_or(Fault::from(Question::NamePresent))?;
+    let e = find_entry(&volume.read.directory, name).ok_or(Question::NamePresent)?;
     Ok(load_file(volume, e))
 }

@@ -57,6 +57,13 @@ module _ (ms : List Mark) (n : ℕ) (within : n < length ms) where
       stops live wrong = absurd (true≢false wrong)
       stops (dead level cover) no' = refl
 
+-- the lowest dead block is still ahead where those before are live
+pub walked : (ms : List Mark) (n : ℕ) → n ≤ length ms → ((k : ℕ) → k < n → is_ok (asked ms k) ≡ true) → first_dead n (drop n ms) ≡ first_dead 0 ms
+walked ms zero within ok = refl
+walked ms (suc n) within ok =
+    let next : suc n ≡ n + 1 = omega arith in
+    ap (λ k. first_dead k (drop k ms)) next ∙ first-goes-on ms n (omega arith) (ok n (omega arith)) ∙ walked ms n (omega arith) (λ k lt. ok k (omega arith))
+
 -- where no block is dead, each mark is live
 live_at : (k : ℕ) (ms : List Mark) (n : ℕ) → n < length ms → is_ok (first_dead k ms) ≡ true → get_or ms n live ≡ live
 live_at k [] n within all = absurd (omega arith)

@@ -11,13 +11,10 @@ use faults::Fault;
 pub fn all_live<S: Store>(store: &S) -> Result<(), Fault>
     ensures { result ≡ all_live (S.Store.marks store.now) }
 {
-    for n in 0..store.count() {
-        if !store.live(n) {
-            let mut unused = [0; 512];
-            return store.fetch(n, &mut unused);
-        }
+    match (0..store.count()).find(|n| !store.live(*n)) {
+        Some(n) => store.fetch(n, &mut [0; 512]),
+        None => Ok(()),
     }
-    Ok(())
 }
 
 // A store every block of which is live, so that no fetch of a block that there is can be refused.

@@ -1,6 +1,6 @@
 // A plain store: the whole blocks of a memory, some of them condemned.
 ghost use Rattle.std.specs.Prelude.{◌≡◌, ◌<◌, true, [], length, is_ok};
-ghost use Rattle.store.specs.Condemned.{Condemns, listed};
+ghost use Rattle.store.specs.Condemned.{Condemns};
 ghost use Rattle.store.specs.Plain.{whole_blocks, plain_bytes, plain_condemned, shown_blocks, shown_marks, PlainMoved, plain_laws};
 ghost use Rattle.store.specs.Stores.{asked};
 

@@ -22,7 +22,8 @@ pub struct Directory {
 }
 
 impl Directory {
-    // Entry e, which may stand behind those that the directory has.
+    // Entry e, which may stand behind those that the directory has. That e is below 256 stays a clause here and below: a type for the place of an
+    // entry would be made and taken apart at each use.
     pub fn entry(&self, e: usize) -> Entry
         requires { e < 256 }
         ensures { result ≡ entry_at self.now.bytes e }

@@ -19,6 +19,7 @@ pub enum Rule {
 }
 
 impl Rule {
+    // Not `u8::from`, which would not say that it is the number which is printed.
     pub fn number(self) -> u8
         ensures { result ≡ rule_number self }
     {

@@ -10,8 +10,8 @@ use store::liveness::Live;
 // The inode records of a block.
 const INODES_PER_BLOCK: usize = 16;
 
-// What looks at each inode in turn. It is a type and no closure: its ghost member says what it has become, and of a closure that changes what it
-// captures no more is known than that its calls followed each other.
+// What looks at each inode in turn. A type and no closure: its ghost member says in one equation what it has become, where the contract of a
+// closure would give a relation for each call.
 pub trait Visitor {
     ghost after: { Self → ℕ → Inode → Self };
 

@@ -1,5 +1,5 @@
 // Dead blocks of covers: which levels they make dead, and which cover a refusal names.
-use crate::expected::{agrees, lay_out_four};
+use crate::trial::{Trial, agrees};
 use faults::Fault;
 use faults::Question::BlockLive;
 use std::io;
@@ -45,57 +45,54 @@ fn try_one(tally: &mut Tally, case: Dead) {
     for n in case.condemned {
         tally.answers("condemn", image.condemn(n), Ok(()));
     }
-    let mut wallet = Wallet::new(image);
-    work(tally, &mut wallet, case.named);
-    drop(wallet);
+    let wallet = Wallet::new(image);
+    let mut trial = Trial { tally, wallet };
+    trial.try_levels(case.named);
+    drop(trial);
     for (cover, byte) in memory.chunks_exact(2048).zip(case.covers) {
         tally.expect("a cover's byte", cover[1024], byte);
         tally.expect("another block", cover[1536], 0x11);
     }
 }
 
-fn work<S: Store>(tally: &mut Tally, wallet: &mut Wallet<S>, named: [Option<usize>; 4]) {
-    lay_out_four(tally, wallet);
-    for (level, cover) in named.into_iter().enumerate() {
-        try_level(tally, wallet, level, cover);
+impl<S: Store> Trial<'_, S> {
+    fn try_levels(&mut self, named: [Option<usize>; 4]) {
+        self.lay_out_four();
+        for (level, cover) in named.into_iter().enumerate() {
+            self.try_level(level, cover);
+        }
     }
-}
 
-// A fetch and a put of block 2, refused where it names a dead cover, and a fetch of another; what is refused leaves the buffer.
-fn try_level<S: Store>(
-    tally: &mut Tally,
-    wallet: &mut Wallet<S>,
-    level: usize,
-    dead: Option<usize>,
-) {
-    let wanted = dead.map_or(Ok(()), |cover| {
-        Err(Fault {
-            question: BlockLive,
-            level,
-            block: 2,
-            cover,
-            rule: 0,
-        })
-    });
-    let mut buffer = [0xee; 512];
-    agrees(
-        tally,
-        "fetch",
-        wallet.level_fetch(level, 2, &mut buffer),
-        wanted,
-    );
-    let byte = if wanted.is_ok() { 0x11 } else { 0xee };
-    tally.expect("buffer", buffer[511], byte);
-    agrees(
-        tally,
-        "put",
-        wallet.level_put(level, 2, &[0x5a; 512]),
-        wanted,
-    );
-    agrees(
-        tally,
-        "fetch",
-        wallet.level_fetch(level, 1, &mut buffer),
-        Ok(()),
-    );
+    // A fetch and a put of block 2, refused where it names a dead cover, and a fetch of another; what is refused leaves the buffer.
+    fn try_level(&mut self, level: usize, dead: Option<usize>) {
+        let wanted = dead.map_or(Ok(()), |cover| {
+            Err(Fault {
+                level,
+                block: 2,
+                cover,
+                ..Fault::from(BlockLive)
+            })
+        });
+        let mut buffer = [0xee; 512];
+        agrees(
+            self.tally,
+            "fetch",
+            self.wallet.level_fetch(level, 2, &mut buffer),
+            wanted,
+        );
+        let byte = if wanted.is_ok() { 0x11 } else { 0xee };
+        self.tally.expect("buffer", buffer[511], byte);
+        agrees(
+            self.tally,
+            "put",
+            self.wallet.level_put(level, 2, &[0x5a; 512]),
+            wanted,
+        );
+        agrees(
+            self.tally,
+            "fetch",
+            self.wallet.level_fetch(level, 1, &mut buffer),
+            Ok(()),
+        );
+    }
 }

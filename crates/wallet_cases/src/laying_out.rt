@@ -1,4 +1,5 @@
 // Laying out covers: how many of how many blocks, over stores of how many.
+use crate::trial::Trial;
 use faults::Question::{CoversWithinLimits, EnoughStoreBlocks, NoCoversYet};
 use store::image::Image;
 use store::interface::Store;
@@ -9,8 +10,8 @@ pub fn all(rt: &HostRuntime, tally: &mut Tally) -> anyhow::Result<()> {
     let mut memory = vec![in rt.alloc(); 0u8; 1_638_400]?;
     for (blocks, k, n, wanted) in CASES {
         let len = blocks.saturating_mul(512).min(memory.len());
-        let image = Image::new(&mut memory[..len]);
-        try_one(tally, &mut Wallet::new(image), k, n, wanted);
+        let wallet = Wallet::new(Image::new(&mut memory[..len]));
+        Trial { tally, wallet }.lay_out_twice(k, n, wanted);
     }
     tally.report(rt, "laying out")?;
     Ok(())
@@ -39,19 +40,17 @@ const CASES: [(usize, usize, usize, Outcome); 19] = [
     (0, 1, 4, Err(CoversWithinLimits)),
 ];
 
-// Lays out once, and once more: covers that lie are there whatever is asked next.
-fn try_one<S: Store>(
-    tally: &mut Tally,
-    wallet: &mut Wallet<S>,
-    k: usize,
-    n: usize,
-    wanted: Outcome,
-) {
-    tally.answers("lay out", wallet.lay_out(k, n), wanted);
-    let again = if wanted.is_ok() {
-        NoCoversYet
-    } else {
-        CoversWithinLimits
-    };
-    tally.answers("lay out", wallet.lay_out(0, 0), Err(again));
+impl<S: Store> Trial<'_, S> {
+    // Lays out once, and once more: covers that lie are there whatever is asked next.
+    fn lay_out_twice(&mut self, k: usize, n: usize, wanted: Outcome) {
+        self.tally
+            .answers("lay out", self.wallet.lay_out(k, n), wanted);
+        let again = if wanted.is_ok() {
+            NoCoversYet
+        } else {
+            CoversWithinLimits
+        };
+        self.tally
+            .answers("lay out", self.wallet.lay_out(0, 0), Err(again));
+    }
 }

@@ -4,9 +4,9 @@
 use tally::Tally;
 
 mod dead_covers;
-mod expected;
 mod laying_out;
 mod order;
+mod trial;
 mod wide;
 mod worked;
 

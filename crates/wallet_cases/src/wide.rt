@@ -1,5 +1,5 @@
 // A wide set of long covers: an edit of level 0 leaves every other level as it was.
-use crate::expected::agrees;
+use crate::trial::{Trial, agrees};
 use store::image::Image;
 use store::interface::Store;
 use tally::Tally;
@@ -27,9 +27,10 @@ const COVERS: [usize; 3] = [1, 20, 31];
 pub fn all(rt: &HostRuntime, tally: &mut Tally) -> anyhow::Result<()> {
     let mut memory = vec![in rt.alloc(); 0u8; LEN]?;
     fill(memory.as_mut_slice());
-    let mut wallet = Wallet::new(Image::new(memory.as_mut_slice()));
-    edit(rt, tally, &mut wallet)?;
-    drop(wallet);
+    let wallet = Wallet::new(Image::new(memory.as_mut_slice()));
+    let mut trial = Trial { tally, wallet };
+    trial.edit(rt)?;
+    drop(trial);
     covers_after(tally, memory.as_slice());
     tally.report(rt, "a wide set of long covers")?;
     Ok(())
@@ -56,50 +57,50 @@ fn keys_of(group: [u32; 4]) -> [u64; 4] {
     [a | b | c, b | c | d, a | b | d, a | c | d]
 }
 
-fn take_keys<S: Store>(tally: &mut Tally, wallet: &mut Wallet<S>) {
-    tally.answers("lay out", wallet.lay_out(32, 100), Ok(()));
-    for group in GROUPS {
-        for key in keys_of(group) {
-            tally.answers("take", wallet.take(key), Ok(()));
+impl<S: Store> Trial<'_, S> {
+    fn take_keys(&mut self) {
+        self.tally
+            .answers("lay out", self.wallet.lay_out(32, 100), Ok(()));
+        for group in GROUPS {
+            for key in keys_of(group) {
+                self.tally.answers("take", self.wallet.take(key), Ok(()));
+            }
         }
     }
-}
 
-// All blocks of the sixteen levels, one after the other.
-fn levels<S: Store>(
-    rt: &HostRuntime,
-    tally: &mut Tally,
-    wallet: &mut Wallet<S>,
-) -> anyhow::Result<Vec<u8>> {
-    let mut bytes = Vec::new(rt.alloc());
-    let mut buffer = [0; 512];
-    for level in 0..16 {
-        for b in 0..100 {
+    // All blocks of the sixteen levels, one after the other.
+    fn levels(&mut self, rt: &HostRuntime) -> anyhow::Result<Vec<u8>> {
+        let mut bytes = Vec::new(rt.alloc());
+        let mut buffer = [0; 512];
+        for level in 0..16 {
+            for b in 0..100 {
+                agrees(
+                    self.tally,
+                    "fetch",
+                    self.wallet.level_fetch(level, b, &mut buffer),
+                    Ok(()),
+                );
+                bytes.extend_from_slice(&buffer)?;
+            }
+        }
+        Ok(bytes)
+    }
+
+    fn edit(&mut self, rt: &HostRuntime) -> anyhow::Result<()> {
+        self.take_keys();
+        let before = self.levels(rt)?;
+        for (b, byte) in EDITS {
             agrees(
-                tally,
-                "fetch",
-                wallet.level_fetch(level, b, &mut buffer),
+                self.tally,
+                "put",
+                self.wallet.level_put(0, b, &[byte; 512]),
                 Ok(()),
             );
-            bytes.extend_from_slice(&buffer)?;
         }
+        let after = self.levels(rt)?;
+        compare(self.tally, before.as_slice(), after.as_slice());
+        Ok(())
     }
-    Ok(bytes)
-}
-
-fn edit<S: Store>(
-    rt: &HostRuntime,
-    tally: &mut Tally,
-    wallet: &mut Wallet<S>,
-) -> anyhow::Result<()> {
-    take_keys(tally, wallet);
-    let before = levels(rt, tally, wallet)?;
-    for (b, byte) in EDITS {
-        agrees(tally, "put", wallet.level_put(0, b, &[byte; 512]), Ok(()));
-    }
-    let after = levels(rt, tally, wallet)?;
-    compare(tally, before.as_slice(), after.as_slice());
-    Ok(())
 }
 
 // How many bytes differ from `from` on, up to `to`.

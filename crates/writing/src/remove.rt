@@ -1,5 +1,4 @@
 // A file removed.
-ghost use Rattle.std.specs.Prelude.{◌≡◌};
 ghost use Rattle.store.specs.Lives.{Leads};
 ghost use Rattle.reading.specs.Found.{FileIn};
 ghost use Rattle.allotment.specs.Calls.{Served};

@@ -91,8 +91,8 @@ fn has_room(volume: &Volume, e: usize) -> bool
 pub(crate) fn find_vacancy<S: Store>(volume: &SoundVolume<'_, S>) -> Result<Vacancy, Fault>
     ensures { result ≡ vacancy_in (S.Store.blocks volume.now.live.store.now) }
 {
-    let inode = find_inode(volume).ok_or(Fault::from(Question::InodeFree))?;
-    let entry = find_slot(&volume.read.directory).ok_or(Fault::from(Question::EntryFree))?;
+    let inode = find_inode(volume).ok_or(Question::InodeFree)?;
+    let entry = find_slot(&volume.read.directory).ok_or(Question::EntryFree)?;
     if !has_room(&volume.read, entry) {
         return Err(Fault::from(Question::EnoughFreeBlocks));
     }

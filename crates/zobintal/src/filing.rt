@@ -3,7 +3,6 @@ ghost use Rattle.std.specs.Prelude.{◌≡◌, false, is_ok, IfOk};
 ghost use Rattle.zobintal.specs.Filing.{Laid, gathered};
 
 use anyhow::anyhow;
-use faults::Fault;
 use std::alloc::Global;
 use store::interface::{BLOCK_SIZE, Block, Store};
 use store::padding::padded;

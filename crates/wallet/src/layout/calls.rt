@@ -7,13 +7,17 @@ use crate::level::Level;
 use faults::{Fault, Question};
 use keys::table::KeyTable;
 
+const MIN_BLOCKS: usize = 4;
+
+const MAX_BLOCKS: usize = 100;
+
 impl Layout {
     // So many covers of so many blocks each, and no keys yet.
     pub(crate) fn new(covers: usize, blocks: usize) -> Result<Layout, Fault>
         ensures { LaidOut covers blocks result }
     {
         let keys = KeyTable::new(covers)?;
-        if !(4..=100).contains(&blocks) {
+        if !(MIN_BLOCKS..=MAX_BLOCKS).contains(&blocks) {
             return Err(Fault::from(Question::CoversWithinLimits));
         }
         Ok(Layout { keys, blocks })

@@ -14,10 +14,7 @@ impl<S: Store> Wallet<S> {
     pub fn add(&mut self, candidate: u64) -> Result<usize, Fault>
         ensures { Called S.Store (λ w. key_call add_call w candidate) self.old self.new result }
     {
-        let layout = self
-            .layout
-            .as_mut()
-            .ok_or(Fault::from(Question::CoversLaidOut))?;
+        let layout = self.layout.as_mut().ok_or(Question::CoversLaidOut)?;
         layout.keys.add(candidate)
     }
 
@@ -25,10 +22,7 @@ impl<S: Store> Wallet<S> {
     pub fn take(&mut self, key: u64) -> Result<usize, Fault>
         ensures { Called S.Store (λ w. key_call take_call w key) self.old self.new result }
     {
-        let layout = self
-            .layout
-            .as_mut()
-            .ok_or(Fault::from(Question::CoversLaidOut))?;
+        let layout = self.layout.as_mut().ok_or(Question::CoversLaidOut)?;
         layout.keys.take(key)
     }
 
