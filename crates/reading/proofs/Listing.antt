@@ -43,7 +43,7 @@ module _ (d : Entries) where
       length-cond false = refl
 
   -- of more entries at least as many are used
-  pub count-mono : (m n : ℕ) → m ≤ n → length (used_among d m) ≤ length (used_among d n)
+  count-mono : (m n : ℕ) → m ≤ n → length (used_among d m) ≤ length (used_among d n)
   count-mono m zero le = let e : m ≡ 0 = omega arith in let same = ap (λ k. length (used_among d k)) e in omega arith
   count-mono m (suc n) le =
       ⊎_elim
@@ -67,6 +67,15 @@ module _ (v : List Block) (d : Entries) where
 
   pub length-records : (n : ℕ) → length (records_among v d n) ≡ length (used_among d n)
   length-records n = length-map (used_among d n) (record_at v d)
+
+  -- where the records of the first n entries have places enough, there is one for a used entry among these
+  pub room_left : {x : Entries} (n e filled places : ℕ) → x ≡ d → true ≡ used x e → e < n → filled ≡ length (used_among d e) → length (records_among v d n) ≤ places → filled < places
+  room_left n e filled places same is inside count room =
+      let here : one d e ≡ 1 = ap (λ b. cond b 1 0) (ap (λ x. used x e) (sym same) ∙ sym is) in
+      let more = count-more d e in
+      let most = count-mono d (e + 1) n (omega arith) in
+      let all = length-records n in
+      omega (arith, count, room)
 
   -- one entry more
   pub records_next : (e filled : ℕ) (before records : List FileRecord) → filled ≡ length (used_among d e) → (used d e ≡ true → filled < length before) → records ≡ records_among v d e ++ drop filled before → cond (used d e) (set records filled (record_at v d e)) records ≡ records_among v d (e + 1) ++ drop (filled + one d e) before

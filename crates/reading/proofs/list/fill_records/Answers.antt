@@ -1,9 +1,9 @@
 -- One entry more.
-use Rattle.std.proofs.Common.{◌≡◌, ◌+◌, ◌<◌, true, false, cond, ◌++◌, map, length, drop, set, sym, ap, ◌∙◌, arith, rules}
+use Rattle.std.proofs.Common.{◌≡◌, ◌+◌, ◌<◌, true, false, cond, ◌++◌, map, length, drop, set, sym, refl, ap, ◌∙◌, arith, rules}
 use Rattle.volume.specs.Directories.{used}
 use Rattle.volume.specs.Rules.{directory_of, entry_count}
 use Rattle.volume.specs.VolumeFiles.{used_among}
-use Rattle.reading.proofs.Listing.{used_among-none, count-more, count-mono, length-records, records_next}
+use Rattle.reading.proofs.Listing.{used_among-none, count-more, length-records, room_left, records_next}
 use Rattle.reading.specs.Listings.{one, record_at, records_among, records_of}
 use Rattle.reading.proofs.list.fill_records.Goals as goal
 use Rattle.reading.proofs.list.fill_records.Goals.{then-is_used, else-is_used}
@@ -18,42 +18,22 @@ pub bounds-records-filled : goal.bounds-records-filled
 bounds-records-filled g c =
     let o = c.args.volume.now in
     let v = g.S.Store.blocks o.live.store.now in
-    let d = directory_of v in
-    let e = c.loop-e.e in
-    let is : used d e ≡ true = ap (λ f. used f e) (sym o.loaded.directory) ∙ sym c.if-is_used.ensures in
-    let here : one d e ≡ 1 = ap (λ b. cond b 1 0) is in
-    let more = count-more d e in
-    let most = count-mono d (e + 1) (entry_count v) (omega (arith, o.loaded.entries)) in
-    let all = length-records v d (entry_count v) in
-    omega (arith, c.requires, c.loop-e.auto.records)
+    let room = room_left v (directory_of v) (entry_count v) c.loop-e.e c.loop-e.filled _ o.loaded.directory c.if-is_used.ensures (omega (arith, o.loaded.entries)) c.loop-e.invariant.count c.requires in
+    omega (arith, room, c.loop-e.auto.records)
 
 pub offset_bounds-records-filled : goal.offset_bounds-records-filled
 offset_bounds-records-filled g c =
     let o = c.args.volume.now in
     let v = g.S.Store.blocks o.live.store.now in
-    let d = directory_of v in
-    let e = c.loop-e.e in
-    let is : used d e ≡ true = ap (λ f. used f e) (sym o.loaded.directory) ∙ sym c.if-is_used.ensures in
-    let here : one d e ≡ 1 = ap (λ b. cond b 1 0) is in
-    let more = count-more d e in
-    let most = count-mono d (e + 1) (entry_count v) (omega (arith, o.loaded.entries)) in
-    let all = length-records v d (entry_count v) in
-    let lt : c.loop-e.filled < length c.loop-e.records = omega (arith, c.requires, c.loop-e.auto.records) in
-    search rules
+    let room = room_left v (directory_of v) (entry_count v) c.loop-e.e c.loop-e.filled _ o.loaded.directory c.if-is_used.ensures (omega (arith, o.loaded.entries)) c.loop-e.invariant.count c.requires in
+    let lt : c.loop-e.filled < length c.loop-e.records = omega (arith, room, c.loop-e.auto.records) in search rules
 
 pub overflow_add-filled : goal.overflow_add-filled
 overflow_add-filled g c =
     let o = c.args.volume.now in
     let v = g.S.Store.blocks o.live.store.now in
-    let d = directory_of v in
-    let e = c.loop-e.e in
-    let is : used d e ≡ true = ap (λ f. used f e) (sym o.loaded.directory) ∙ sym c.if-is_used.ensures in
-    let here : one d e ≡ 1 = ap (λ b. cond b 1 0) is in
-    let more = count-more d e in
-    let most = count-mono d (e + 1) (entry_count v) (omega (arith, o.loaded.entries)) in
-    let all = length-records v d (entry_count v) in
-    let lt : c.loop-e.filled < length c.loop-e.records = omega (arith, c.requires, c.loop-e.auto.records) in
-    search rules
+    let room = room_left v (directory_of v) (entry_count v) c.loop-e.e c.loop-e.filled _ o.loaded.directory c.if-is_used.ensures (omega (arith, o.loaded.entries)) c.loop-e.invariant.count c.requires in
+    let lt : c.loop-e.filled < length c.loop-e.records = omega (arith, room, c.loop-e.auto.records) in search rules
 
 pub loop-e-preserved : goal.loop-e-preserved
 loop-e-preserved g c =
@@ -65,9 +45,7 @@ loop-e-preserved g c =
     let records = c.loop-e.records in
     let before = c.args.records.now in
     let more = count-more d e in
-    let most = count-mono d (e + 1) (entry_count v) (omega (arith, o.loaded.entries)) in
-    let all = length-records v d (entry_count v) in
-    let room : used d e ≡ true → filled < length before = λ is. let here : one d e ≡ 1 = ap (λ b. cond b 1 0) is in omega (arith, c.requires) in
+    let room : used d e ≡ true → filled < length before = λ is. room_left v d (entry_count v) e filled _ refl (sym is) (omega (arith, o.loaded.entries)) c.loop-e.invariant.count c.requires in
     let next = records_next v d e filled before records c.loop-e.invariant.count room c.loop-e.invariant.sofar in
     elim c.if-is_used.branch [
       | then-is_used w ↦
