@@ -5,3 +5,4 @@ pub mod Keeping
 pub mod Remainders
 pub mod Standing
 pub mod Sums
+pub mod Tables

@@ -1,12 +1,12 @@
 -- What a key table means: the keys that stand in it, and the number of covers.
-use Rattle.std.specs.Prelude.{◌≡◌, ℕ, List, [], Ok, Err, Result}
+use Rattle.std.specs.Prelude.{◌≡◌, ℕ, List, [], take, Ok, Err, Result}
 use Rattle.faults.specs.declared.Fault.{Fault}
 use Rattle.keys.specs.Calls.{covers_answer}
 use Rattle.keys.specs.declared.table.KeyTable.{KeyTable}
 
 -- The keys in the order of their levels.
 abbrev pub standing : KeyTable → List ℕ
-standing t = t.keys.items
+standing t = take t.count t.keys
 
 -- Over how many covers they stand.
 abbrev pub covers_of : KeyTable → ℕ

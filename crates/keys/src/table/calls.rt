@@ -6,12 +6,13 @@ ghost use Rattle.keys.specs.Tables.{standing, covers_of, Made};
 
 use super::KeyTable;
 use crate::algebra::{fits, is_odd, key_sum, remainder};
-use arrayvec::ArrayVec;
 use faults::{Fault, Question};
 
 const MIN_COVERS: usize = 2;
 
 const MAX_COVERS: usize = 32;
+
+const MAX_LEVELS: usize = 16;
 
 impl KeyTable {
     // No keys yet, over that many covers.
@@ -22,7 +23,8 @@ impl KeyTable {
             return Err(Fault::from(Question::CoversWithinLimits));
         }
         Ok(KeyTable {
-            keys: ArrayVec::new(),
+            keys: [0; 16],
+            count: 0,
             covers,
         })
     }
@@ -38,14 +40,14 @@ impl KeyTable {
     pub fn is_full(&self) -> bool
         ensures { SaysFull (covers_of self.now) (standing self.now) result }
     {
-        key_sum(&self.keys) == self.limit() - 1
+        key_sum(self.standing()) == self.limit() - 1
     }
 
     // What is left of a candidate once the standing keys are taken off that share an odd number of ones with it.
     pub fn remainder(&self, candidate: u64) -> u64
         ensures { Remains (standing self.now) candidate result }
     {
-        remainder(&self.keys, candidate)
+        remainder(self.standing(), candidate)
     }
 
     // Questions 8, 9 and 10, which adding and taking a key ask first.
@@ -54,7 +56,7 @@ impl KeyTable {
         ensures room { OnOk result (length (standing self.now) < max_levels) }
         ensures below { OnOk result (candidate < 2 ^ (covers_of self.now)) }
     {
-        if self.keys.is_full() {
+        if self.count >= MAX_LEVELS {
             return Err(Fault::from(Question::RoomForLevel));
         }
         if self.is_full() {
@@ -75,8 +77,9 @@ impl KeyTable {
         ensures after { standing self.new ≡ standing self.old ++ key ∷ [] }
         ensures covers { covers_of self.new ≡ covers_of self.old }
     {
-        let level = self.keys.len();
-        self.keys.push(key);
+        let level = self.count;
+        self.keys[level] = key;
+        self.count = level + 1;
         level
     }
 
@@ -101,7 +104,7 @@ impl KeyTable {
         ensures refused { OnErr result (self.new ≡ self.old) }
     {
         self.admit(key)?;
-        if !fits(&self.keys, key) {
+        if !fits(self.standing(), key) {
             return Err(Fault::from(Question::KeyOrthonormal));
         }
         Ok(self.append(key))

@@ -8,12 +8,19 @@ use super::KeyTable;
 use faults::{Fault, Question};
 
 impl KeyTable {
+    // The keys in the order of their levels.
+    pub(super) fn standing(&self) -> &[u64]
+        ensures { result.now ≡ standing self.now }
+    {
+        &self.keys[..self.count]
+    }
+
     // How many levels stand.
     pub fn count(&self) -> usize
         ensures answer { result ≡ length (standing self.now) }
         ensures sound { Sound (covers_of self.now) (standing self.now) }
     {
-        self.keys.len()
+        self.standing().len()
     }
 
     pub fn covers(&self) -> usize
@@ -27,7 +34,11 @@ impl KeyTable {
     pub fn key(&self, level: usize) -> Option<u64>
         ensures { result ≡ key_of (standing self.now) level }
     {
-        self.keys.get(level).copied()
+        if level < self.count {
+            Some(self.keys[level])
+        } else {
+            None
+        }
     }
 
     // Writes the keys of the first d levels into the first d places of a list, and answers d.
@@ -35,7 +46,7 @@ impl KeyTable {
         ensures answer { result ≡ (disclose_call d (standing self.now) list.old).0 }
         ensures places { list.new ≡ (disclose_call d (standing self.now) list.old).1 }
     {
-        if d > self.count() {
+        if d > self.count {
             return Err(Fault::from(Question::EnoughLevels));
         }
         if d > list.len() {

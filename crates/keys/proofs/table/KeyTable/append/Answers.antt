@@ -1,18 +1,24 @@
--- One key more keeps what the table carries.
-use Rattle.std.proofs.Common.{rules, subst}
-use Rattle.keys.specs.Keys.{Own, Others, Below}
-use Rattle.keys.proofs.Standing.{Own-push, Others-push, Below-push}
+-- One key more stands, and keeps what the table carries.
+use Rattle.std.proofs.Common.{rules, ◌<◌, arith}
+use Rattle.keys.proofs.Tables.{length-standing, take-appended, own_appended, others_appended, below-appended}
 use Rattle.keys.proofs.table.KeyTable.append.Goals as goal
+
+pub returns-clause-after : goal.returns-clause-after
+returns-clause-after c =
+    let t = c.args.self.now in
+    search (rules, take-appended t c.args.key (omega (arith, length-standing t)))
 
 pub invariant_of-self : goal.invariant_of-self
 invariant_of-self c =
     let t = c.args.self.now in
-    let keys = t.keys.items in
     let key = c.args.key in
+    let room : t.count < 16 = omega (arith, length-standing t) in
     record {
+      places = search rules;
+      few = omega arith;
       least = t.least;
       most = t.most;
-      own = subst Own (search rules) (Own-push keys key c.requires.fits t.own);
-      others = subst Others (search rules) (Others-push keys key c.requires.fits t.others);
-      below = subst (Below t.covers) (search rules) (Below-push keys key t.covers t.below c.requires.below);
+      own = own_appended t key room c.requires.fits;
+      others = others_appended t key room c.requires.fits;
+      below = below-appended t key room c.requires.below;
     }
