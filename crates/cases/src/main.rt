@@ -8,7 +8,7 @@ mod sentences;
 mod stores;
 
 fn main(rt: HostRuntime) -> anyhow::Result<()> {
-    let mut tally = Tally::new(rt.alloc());
+    let mut tally = Tally::new();
     stores::all(&rt, &mut tally)?;
     key_tables::all(&rt, &mut tally)?;
     sentences::show_all(&rt)?;

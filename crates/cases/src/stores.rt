@@ -22,7 +22,8 @@ pub fn all(rt: &HostRuntime, tally: &mut Tally) -> io::Result<()> {
     turns(tally);
     tally.report(rt, "blocks in turn")?;
     renumbering(tally);
-    tally.report(rt, "refusals through stripes")
+    tally.report(rt, "refusals through stripes")?;
+    Ok(())
 }
 
 // How many blocks a memory shows, from its length alone: no memory of that length is needed.

@@ -88,11 +88,19 @@ pub struct Fault {
     pub rule: u8,
 }
 
-// A refusal of which the question says it all.
 impl From<Question> for Fault {
     ghost from_gives = { λ question fault. fault ≡ bare question };
 
     fn from(question: Question) -> Fault {
+        Fault::bare(question)
+    }
+}
+
+impl Fault {
+    // A refusal of which the question says it all: `from` by a name that a const fn can call.
+    pub const fn bare(question: Question) -> Fault
+        ensures { result ≡ bare question }
+    {
         Fault {
             question,
             level: 0,
@@ -101,26 +109,24 @@ impl From<Question> for Fault {
             rule: 0,
         }
     }
-}
 
-impl Fault {
     // There is no block of that number.
-    pub fn past_count(block: usize) -> Fault
+    pub const fn past_count(block: usize) -> Fault
         ensures { result ≡ past_count block }
     {
         Fault {
             block,
-            ..Fault::from(Question::BlockBelowCount)
+            ..Fault::bare(Question::BlockBelowCount)
         }
     }
 
     // The block is dead in a plain store, which has no levels and no covers. Not one function with `past_count`: each name says its question.
-    pub fn dead_block(block: usize) -> Fault
+    pub const fn dead_block(block: usize) -> Fault
         ensures { result ≡ dead_block block 0 0 }
     {
         Fault {
             block,
-            ..Fault::from(Question::BlockLive)
+            ..Fault::bare(Question::BlockLive)
         }
     }
 

@@ -10,7 +10,7 @@ mod step;
 mod tables;
 
 fn main(rt: HostRuntime) -> anyhow::Result<()> {
-    let mut tally = Tally::new(rt.alloc());
+    let mut tally = Tally::new();
     scripts::all(&rt, &mut tally)?;
     filling::all(&rt, &mut tally)?;
     tally.verdict()

@@ -9,9 +9,8 @@ ghost use Rattle.reading.specs.Listings.{record_at, records_of, list_call};
 use crate::file::load_inode;
 use faults::{Fault, Question};
 use store::interface::Store;
-use volume::check::open;
 use volume::directory::Directory;
-use volume::sound::SoundVolume;
+use volume::sound::{SoundVolume, open};
 
 // What is told of a file. The name is filled up with zeros.
 #[derive(Clone, Copy, Debug)]

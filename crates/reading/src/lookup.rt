@@ -5,7 +5,7 @@ ghost use Rattle.reading.specs.Lookups.{field_of, is_named, entry_named};
 
 use volume::directory::Directory;
 
-// The name field of a name: filled up with zeros.
+// The name field of a name: filled up with zeros. No From, since it asks that the name be short enough.
 pub fn name_field(name: &[u8]) -> [u8; 14]
     requires { length name.now ≤ 14 }
     ensures { result ≡ field_of name.now }

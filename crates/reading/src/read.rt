@@ -10,8 +10,8 @@ use layout::inode::Inode;
 use layout::name::is_lawful;
 use store::interface::Store;
 use store::liveness::Live;
-use volume::check::open;
 use volume::contents::load_blocks;
+use volume::sound::open;
 
 // Fills the front of the buffer with the bytes of a file.
 fn load_bytes<S: Store>(live: &Live<'_, S>, inode: &Inode, buffer: &mut [u8])

@@ -1,5 +1,5 @@
 -- What a plain store means: the whole blocks of a memory, some of them condemned.
-use Rattle.std.specs.Prelude.{◌≡◌, ℕ, ◌*◌, ◌/◌, ◌<◌, min, List, [], map, length, take, drop, slice_index_or, slice_set, refl}
+use Rattle.std.specs.Prelude.{◌≡◌, ℕ, ◌*◌, ◌/◌, ◌<◌, ◌≤◌, min, List, [], map, length, take, drop, slice_index_or, slice_set, refl}
 use Rattle.std.proofs.Common.{sym, ap, ◌∙◌, arith}
 use Rattle.std.specs.List.{range_with_len}
 use Rattle.std.proofs.lemmas.List.FromFn.{length-map-range_with_len, get_or-map-range_with_len}
@@ -41,6 +41,22 @@ tail bytes = drop (512 * whole_blocks (length bytes)) bytes
 abbrev pub plain_marks : List ℕ → List ℕ → List Mark
 plain_marks condemned bytes = marked condemned (whole_blocks (length bytes))
 
+module _ (condemned bytes : List ℕ) where
+  pub plain_paired : length (plain_marks condemned bytes) ≡ length (cut bytes)
+  plain_paired = length_marked condemned (whole_blocks (length bytes)) ∙ sym (length_cut bytes)
+
+  pub plain_bounded : length (cut bytes) ≤ 1048576
+  plain_bounded = omega (arith, length_cut bytes)
+
+  pub plain_sized : (n : ℕ) → n < length (cut bytes) → length (slice_index_or (cut bytes) n []) ≡ 512
+  plain_sized n within =
+      let inside : n < whole_blocks (length bytes) = omega (arith, length_cut bytes) in
+      ap length (get_or_cut bytes n [] inside) ∙ length_block_of bytes n inside
+
+-- the marks depend on the condemned numbers and the length alone
+pub marks_kept : (xs ys bytes after : List ℕ) → ys ≡ xs → length after ≡ length bytes → plain_marks ys after ≡ plain_marks xs bytes
+marks_kept xs ys bytes after same len = ap (λ zs. marked zs (whole_blocks (length after))) same ∙ ap (λ n. marked xs (whole_blocks n)) len
+
 -- A write of block n leads from one state of a memory to another: it makes that block equal to the contents and leaves every other byte.
 pub record Overwritten (n : ℕ) (contents : Block) (before after : List ℕ) : Type 0 where
   pub blocks : cut after ≡ slice_set (cut before) n contents
@@ -69,22 +85,12 @@ pub record PlainMoved {M : Type 0} (items : M → List ℕ) (reference : M → G
   pub same : plain_condemned q ≡ plain_condemned p
 
 module _ {M : Type 0} (items : M → List ℕ) (reference : M → GName) where
-  sized : (p : Plain M) (n : ℕ) → n < length (shown_blocks items p) → length (slice_index_or (shown_blocks items p) n []) ≡ 512
-  sized p n within =
-      let bytes = plain_bytes items p in
-      let inside : n < whole_blocks (length bytes) = omega (arith, length_cut bytes) in
-      ap length (get_or_cut bytes n [] inside) ∙ length_block_of bytes n inside
-
-  -- the marks depend on the condemned numbers and the length alone
-  kept : (p q : Plain M) → PlainMoved items reference p q → shown_marks items q ≡ shown_marks items p
-  kept p q go = ap (λ xs. marked xs (whole_blocks (length (plain_bytes items q)))) go.same ∙ ap (λ n. marked (plain_condemned p) (whole_blocks n)) go.len
-
   pub plain_laws : Laws (shown_blocks items) (shown_marks items) (PlainMoved items reference)
   plain_laws = record {
-    paired = λ p. length_marked (plain_condemned p) (whole_blocks (length (plain_bytes items p))) ∙ sym (length_cut (plain_bytes items p));
-    bounded = λ p. omega (arith, length_cut (plain_bytes items p));
-    sized = sized;
+    paired = λ p. plain_paired (plain_condemned p) (plain_bytes items p);
+    bounded = λ p. plain_bounded (plain_condemned p) (plain_bytes items p);
+    sized = λ p. plain_sized (plain_condemned p) (plain_bytes items p);
     stays = λ p. record { memory = refl; len = refl; rest = refl; same = refl };
     joins = λ p q r a b. record { memory = b.memory ∙ a.memory; len = b.len ∙ a.len; rest = b.rest ∙ a.rest; same = b.same ∙ a.same };
-    keeps = kept;
+    keeps = λ p q go. marks_kept (plain_condemned p) (plain_condemned q) (plain_bytes items p) (plain_bytes items q) go.same go.len;
   }

@@ -8,13 +8,16 @@ use crate::interface::{Block, Store};
 use faults::Fault;
 
 // Question 2 of every block. The refusal is the store's own, of its lowest dead block, so that the level and the cover come with it.
+// A loop and no `find`: where nothing is condemned the loop is compiled to nothing, and `find` asks each block.
 pub fn all_live<S: Store>(store: &S) -> Result<(), Fault>
     ensures { result ≡ all_live (S.Store.marks store.now) }
 {
-    match (0..store.count()).find(|n| !store.live(*n)) {
-        Some(n) => store.fetch(n, &mut [0; 512]),
-        None => Ok(()),
+    for n in 0..store.count() {
+        if !store.live(n) {
+            return store.fetch(n, &mut [0; 512]);
+        }
     }
+    Ok(())
 }
 
 // A store every block of which is live, so that no fetch of a block that there is can be refused.

@@ -1,23 +1,25 @@
 // Counting the cases of a test program: how many were tried, and which went wrong.
 #![tactic(auto)]
 
-ghost use Rattle.std.specs.Prelude.{◌≡◌, ◌≢◌, true, is_ok, OnOk, ◌==◌, ◌&&◌};
+ghost use Rattle.std.specs.Prelude.{◌≡◌, ◌≢◌, true, is_ok, IfOk, OnOk, ◌==◌, ◌&&◌};
 ghost use Rattle.tally.specs.Answers.{outcome_of};
 ghost use Rattle.tally.specs.Counts.{one_more, unless};
 
 use anyhow::ensure;
+use arrayvec::ArrayString;
 use faults::{Fault, Question};
-use std::alloc::Global;
-use std::fmt::Debug;
+use std::fmt::{Debug, Write};
 use std::io;
+
+// The most bytes that are kept of the words of a wrong case.
+const MAX_WORDS: usize = 512;
 
 // The cases since the last report, and whether all that were reported went right.
 #[derive(Drop)]
 pub struct Tally {
-    alloc: Global,
     tried: usize,
     wrong: usize,
-    first: Option<String>,
+    first: Option<ArrayString<MAX_WORDS>>,
     right: bool,
 }
 
@@ -32,13 +34,12 @@ pub fn outcome<T: Drop>(answer: Result<T, Fault>) -> Outcome
 }
 
 impl Tally {
-    pub fn new(alloc: Global) -> Tally
+    pub fn new() -> Tally
         ensures tried { result.tried ≡ 0 }
         ensures wrong { result.wrong ≡ 0 }
         ensures right { result.right ≡ true }
     {
         Tally {
-            alloc,
             tried: 0,
             wrong: 0,
             first: None,
@@ -56,9 +57,10 @@ impl Tally {
         if came != wanted {
             self.wrong = self.wrong.saturating_add(1);
             if self.first.is_none() {
-                self.first = format!(in self.alloc;
-                    "{name}: {came:?} came, the rules give {wanted:?}"
-                ).ok();
+                let mut words = ArrayString::new();
+                // Words that do not fit are left out: a case asks for no memory.
+                let _cut = write!(words, "{name}: {came:?} came, the rules give {wanted:?}");
+                self.first = Some(words);
             }
         }
     }
@@ -73,8 +75,9 @@ impl Tally {
         self.expect(name, outcome(answer), wanted);
     }
 
-    // Shows what came of the cases since the last report.
-    pub fn report(&mut self, rt: &impl Print, name: &str) -> io::Result<()>
+    // Shows what came of the cases since the last report, and answers whether all of them went right.
+    pub fn report(&mut self, rt: &impl Print, name: &str) -> io::Result<bool>
+        ensures answer { IfOk result (λ all. all ≡ (self.old.wrong == 0)) }
         ensures right { OnOk result (self.new.right ≡ (self.old.right && (self.old.wrong == 0))) }
         ensures tried { OnOk result (self.new.tried ≡ 0) }
         ensures wrong { OnOk result (self.new.wrong ≡ 0) }
@@ -88,7 +91,7 @@ impl Tally {
         self.tried = 0;
         self.wrong = 0;
         self.right &= wrong == 0;
-        Ok(())
+        Ok(wrong == 0)
     }
 
     // A test program's result.

@@ -1,12 +1,12 @@
 -- Lists of block numbers.
-use Rattle.std.specs.Prelude.{ℕ, zero, suc, ◌+◌, Bool, cond, not, List, [], ◌∷◌, length, ◌==◌, slice_index, take}
-use Rattle.std.specs.List.{list_all, list_any}
+use Rattle.std.specs.Prelude.{ℕ, zero, suc, ◌+◌, Bool, cond, not, List, [], ◌∷◌, length, ◌==◌, slice_index}
+use Rattle.std.specs.List.{list_all}
 use Rattle.volume.specs.Every.{every}
 use Rattle.layout.specs.Superblocks.{is_data}
 
 -- The number at place j stands at no earlier place.
 abbrev pub is_new : List ℕ → ℕ → Bool
-is_new xs j = not (list_any (λ x. x == slice_index xs j) (take j xs))
+is_new xs j = every j (λ i. not (slice_index xs i == slice_index xs j))
 
 -- No number stands twice.
 abbrev pub different : List ℕ → Bool

@@ -42,3 +42,8 @@ pub record Loaded (v : List Block) (o : Volume) : Type 0 where
 abbrev pub Inspected : List Block → Option Rule → Result Volume Rule → Type 0
 Inspected v broken (Ok o) = (broken ≡ None) × Loaded v o
 Inspected v broken (Err rule) = broken ≡ Some rule
+
+-- An opened volume is sound, and loaded; a refusal is that of question 2 or 17.
+abbrev pub Opened : List Block → List Mark → Result Volume Fault → Type 0
+Opened v marks (Ok o) = (open_answer v marks ≡ Ok tt) × (first_broken v ≡ None) × Loaded v o
+Opened v marks (Err f) = open_answer v marks ≡ Err f

@@ -1,7 +1,8 @@
 // The entries of a directory, against the rules of a sound volume.
-ghost use Rattle.std.specs.Prelude.{◌≡◌, ◌<◌, ◌≤◌};
+ghost use Rattle.std.specs.Prelude.{◌≡◌, ◌<◌, ◌≤◌, ◌&&◌};
+ghost use Rattle.std.specs.Str.{bytes_eq};
 ghost use Rattle.layout.specs.Entries.{entry_at};
-ghost use Rattle.volume.specs.Directories.{good_dots, used, same_name, new_name, well_named, numbered, entries_for};
+ghost use Rattle.volume.specs.Directories.{good_dots, used, new_name, well_named, numbered, entries_for};
 ghost use Rattle.volume.specs.Every.{every};
 ghost use Rattle.volume.specs.Maps.{numbered_by};
 
@@ -48,13 +49,12 @@ impl Directory {
         2 <= e && self.entry(e).inode != 0
     }
 
-    // Whether entry k is used and has the name of entry e.
-    fn has_name_of(&self, e: usize, k: usize) -> bool
-        requires e_bound { e < 256 }
-        requires k_bound { k < 256 }
-        ensures { result ≡ same_name (entry_at self.now.bytes) e k }
+    // Whether entry k is used and has that name field. It is asked of each pair of entries, and slices are compared several bytes at a time.
+    fn has_name(&self, name: &[u8; 14], k: usize) -> bool
+        requires { k < 256 }
+        ensures { result ≡ (used (entry_at self.now.bytes) k && bytes_eq (entry_at self.now.bytes k).name name.now) }
     {
-        self.is_used(k) && self.entry(k).name == self.entry(e).name
+        self.is_used(k) && self.entry(k).name[..] == name[..]
     }
 
     // Whether no earlier used entry has the name of entry e.
@@ -62,7 +62,8 @@ impl Directory {
         requires { e < 256 }
         ensures { result ≡ new_name (entry_at self.now.bytes) e }
     {
-        (0..e).all(|k| !self.has_name_of(e, k))
+        let name = self.entry(e).name;
+        (0..e).all(|k| !self.has_name(&name, k))
     }
 
     // Whether entry e, if it is used, has a lawful name that no earlier one has.

@@ -8,7 +8,7 @@ mod broken;
 mod sizes;
 
 fn main(rt: HostRuntime) -> anyhow::Result<()> {
-    let mut tally = Tally::new(rt.alloc());
+    let mut tally = Tally::new();
     broken::all(&rt, &mut tally)?;
     sizes::all(&rt, &mut tally)?;
     tally.verdict()

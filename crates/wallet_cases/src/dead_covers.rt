@@ -12,7 +12,8 @@ pub fn all(rt: &HostRuntime, tally: &mut Tally) -> io::Result<()> {
     for case in CASES {
         try_one(tally, case);
     }
-    tally.report(rt, "dead blocks of covers")
+    tally.report(rt, "dead blocks of covers")?;
+    Ok(())
 }
 
 // Store blocks condemned, the dead cover that each level names of block 2, and the first byte of block 2 of each cover afterwards.

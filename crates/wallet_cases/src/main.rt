@@ -11,7 +11,7 @@ mod wide;
 mod worked;
 
 fn main(rt: HostRuntime) -> anyhow::Result<()> {
-    let mut tally = Tally::new(rt.alloc());
+    let mut tally = Tally::new();
     laying_out::all(&rt, &mut tally)?;
     order::all(&rt, &mut tally)?;
     dead_covers::all(&rt, &mut tally)?;

@@ -16,7 +16,8 @@ pub fn all(rt: &HostRuntime, tally: &mut Tally) -> io::Result<()> {
     trial.without_covers();
     trial.tally.report(rt, "a wallet without covers")?;
     trial.in_order();
-    trial.tally.report(rt, "questions in their order")
+    trial.tally.report(rt, "questions in their order")?;
+    Ok(())
 }
 
 impl<S: Store> Trial<'_, S> {

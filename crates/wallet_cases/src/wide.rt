@@ -105,8 +105,10 @@ impl<S: Store> Trial<'_, S> {
 
 // How many bytes differ from `from` on, up to `to`.
 fn different(before: &[u8], after: &[u8], from: usize, to: usize) -> usize {
-    let pairs = before.iter().zip(after).take(to).skip(from);
-    pairs.filter(|(old, new)| old != new).count()
+    let to = to.min(before.len()).min(after.len());
+    let old = before.get(from..to).unwrap_or(&[]);
+    let new = after.get(from..to).unwrap_or(&[]);
+    old.iter().zip(new).filter(|(a, b)| a != b).count()
 }
 
 // Every other level is as it was; level 0 too but for the edited blocks, which have their new bytes.

@@ -20,8 +20,8 @@ use layout::name::is_lawful;
 use reading::lookup::{find_entry, name_field};
 use store::interface::{Block, Store};
 use store::liveness::LiveMut;
-use volume::check::open;
 use volume::loaded::Volume;
+use volume::sound::open;
 
 // A new file: plain, readable and writable by all, and empty.
 fn new_inode() -> Inode

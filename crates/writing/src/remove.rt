@@ -13,8 +13,8 @@ use layout::name::is_lawful;
 use reading::file::{File, find_file};
 use store::interface::Store;
 use store::liveness::LiveMut;
-use volume::check::open;
 use volume::loaded::Volume;
+use volume::sound::open;
 
 // Gives back the blocks of a file, zeroes its inode and empties its entry. The volume is sound until the first put.
 fn discard<S: Store>(live: &mut LiveMut<'_, S>, volume: &Volume, file: &File)

@@ -18,8 +18,8 @@ use layout::superblock::nfree_of;
 use reading::file::{File, find_file};
 use store::interface::{Block, Store};
 use store::liveness::LiveMut;
-use volume::check::open;
 use volume::loaded::Volume;
+use volume::sound::open;
 
 // Whether there are free blocks enough for a file of that size, the file's own included.
 fn has_enough_blocks(superblock: &Block, inode: &Inode, size: usize) -> bool
