@@ -12,7 +12,7 @@ use std::fmt::{Debug, Write};
 use std::io;
 
 // The most bytes that are kept of the words of a wrong case.
-const MAX_WORDS: usize = 512;
+const MAX_WORDS: usize = 256;
 
 // The cases since the last report, and whether all that were reported went right.
 #[derive(Drop)]
