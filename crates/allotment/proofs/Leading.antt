@@ -1,12 +1,14 @@
 -- Puts after puts, for any store.
-use Rattle.std.proofs.Common.{◌≡◌, List, length, Ok, Err, Result, sym, refl, ap, ◌∙◌}
+use Rattle.std.proofs.Common.{◌≡◌, ℕ, ◌+◌, List, length, get_or, set, Ok, Err, Result, sym, refl, ap, ◌∙◌}
 use Rattle.std.proofs.lemmas.Result.{err_from_is_err_and}
 use Rattle.std.specs.Borrow.{MutBor}
 use Rattle.std.specs.Result.{IsErrAnd}
 use Rattle.store.specs.Lives.{Leads}
 use Rattle.store.specs.Stores.{Block, Mark, Laws}
 use Rattle.faults.specs.declared.Fault.{Fault}
+use Rattle.allotment.proofs.Laying.{laid_more}
 use Rattle.allotment.specs.Calls.{Served, carried_out}
+use Rattle.allotment.specs.Volumes.{contents_block, laid}
 
 module _ {S : Type 0} {blocks : S → List Block} {marks : S → List Mark} {moved : S → S → Type 0} (laws : Laws blocks marks moved) where
   -- no put yet
@@ -19,6 +21,14 @@ module _ {S : Type 0} {blocks : S → List Block} {marks : S → List Mark} {mov
 
   pub leads_join : {w x : List Block} {s t u : MutBor S} → Leads blocks moved w s t → Leads blocks moved x t u → Leads blocks moved x s u
   leads_join {w} {x} {s} {t} {u} first second = record { after = second.after; moves = laws.joins s.now t.now u.now first.moves second.moves; same = second.same ∙ first.same }
+
+  -- one block more of a file's contents
+  pub leads_laid : {s t u : MutBor S} {n after : ℕ} {block : Block} (v : List Block) (numbers contents : List ℕ) (k : ℕ)
+      → Leads blocks moved (laid v numbers contents k) s t → Leads blocks moved (set (blocks t.now) n block) t u → n ≡ get_or numbers k 0 → block ≡ contents_block contents k → k + 1 ≡ after → Leads blocks moved (laid v numbers contents after) s u
+  leads_laid {s} {t} {u} {n} {after} {block} v numbers contents k first second there holds more =
+      leads_to
+      (ap (λ w. set w n block) first.after ∙ ap (λ i. set (laid v numbers contents k) i block) there ∙ ap (set (laid v numbers contents k) (get_or numbers k 0)) holds ∙ laid_more v numbers contents k ∙ ap (laid v numbers contents) more)
+      (leads_join first second)
 
   -- a store keeps its length
   pub still_long : {w : List Block} {s t : MutBor S} → Leads blocks moved w s t → length (blocks t.now) ≡ length (blocks s.now)

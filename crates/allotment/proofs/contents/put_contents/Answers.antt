@@ -1,9 +1,9 @@
 -- One block more, and all of them.
-use Rattle.std.proofs.Common.{◌≡◌, ◌+◌, ◌*◌, [], ◌∷◌, ◌++◌, length, get_or, drop, set, sym, ap, ◌∙◌, arith, rules}
+use Rattle.std.proofs.Common.{◌≡◌, ◌+◌, ◌*◌, [], ◌∷◌, ◌++◌, length, drop, sym, ap, ◌∙◌, arith, rules}
+use Rattle.std.proofs.lemmas.Slice.{overwrites}
 use Rattle.std.proofs.lemmas.List.{length_push}
-use Rattle.allotment.proofs.Laying.{laid_none, laid_more, next_item, next_rest, next_part, next_few}
-use Rattle.allotment.proofs.Leading.{leads_none, leads_to, leads_join, still_long}
-use Rattle.allotment.specs.Volumes.{laid}
+use Rattle.allotment.proofs.Laying.{laid_none, next_item, next_rest, next_part, next_few}
+use Rattle.allotment.proofs.Leading.{leads_none, leads_to, still_long, leads_laid}
 use Rattle.allotment.proofs.contents.put_contents.Goals as goal
 
 pub loop-bytes-init : goal.loop-bytes-init
@@ -39,12 +39,10 @@ loop-bytes-preserved g c =
     let item = next_item numbers _ _ k c.in-Some.number.now sofar.numbers steps.1 in
     let size = rw sofar.size at steps.0.1.1 in
     let few = next_few contents _ c.in-Some.bytes.now _ k sofar.rest steps.0.1.0 size steps.0.1.2 in
-    let put = ap (λ w. set w c.in-Some.number.now c.padded.result) sofar.leads.after ∙ ap (λ n. set (laid v numbers contents k) n c.padded.result) item.1
-    ∙ ap (set (laid v numbers contents k) (get_or numbers k 0)) (c.padded.ensures ∙ next_part contents _ c.in-Some.bytes.now _ k sofar.rest steps.0.1.0 size) ∙ laid_more v numbers contents k ∙ ap (laid v numbers contents) more in
     record {
       size = steps.0.0 ∙ sofar.size;
       rest = next_rest contents _ c.in-Some.bytes.now _ k sofar.rest steps.0.1.0 size ∙ ap (λ n. drop (512 * n) contents) more;
       numbers = item.2 ∙ ap (λ n. drop n numbers) more;
       few = omega (arith, more, few);
-      leads = leads_to laws put (leads_join laws sofar.leads c.put.ensures);
+      leads = leads_laid laws v numbers contents k sofar.leads c.put.ensures item.1 (search (rules, overwrites) ∙ next_part contents _ c.in-Some.bytes.now _ k sofar.rest steps.0.1.0 size) more;
     }

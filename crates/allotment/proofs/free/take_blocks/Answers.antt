@@ -1,5 +1,6 @@
 -- One block more, and all of them.
 use Rattle.std.proofs.Common.{◌≡◌, ℕ, ◌-◌, ◌++◌, replicate, sym, ap, ◌∙◌, arith, rules}
+use Rattle.std.proofs.lemmas.Grind.{common_steps}
 use Rattle.std.proofs.lemmas.List.{length-take}
 use Rattle.layout.specs.Superblocks.{nfree_of}
 use Rattle.allotment.proofs.FreeLaws.{takes_none, takes-more, nfree-takes, addresses_none, addresses_next, addresses_all}
@@ -31,4 +32,4 @@ pub returns : goal.returns
 returns c =
     let b = c.args.superblock.now in
     let all : c.loop-address.address-index ≡ c.args.n = omega (arith, c.requires.few, length-take {A = ℕ}) in
-    record { numbers = search rules ∙ addresses_all b c.args.n c.loop-address.address-items (c.loop-address.invariant.numbers ∙ ap (λ k. numbers_taken b k ++ replicate (c.args.n - k) 0) all); after = c.loop-address.invariant.taken ∙ ap (takes b) all }
+    record { numbers = search (rules, common_steps) ∙ addresses_all b c.args.n c.loop-address.address-items (c.loop-address.invariant.numbers ∙ ap (λ k. numbers_taken b k ++ replicate (c.args.n - k) 0) all); after = c.loop-address.invariant.taken ∙ ap (takes b) all }

@@ -1,5 +1,5 @@
 -- The first number that passes the test.
-use Rattle.std.proofs.Common.{◌≡◌, true, false, rules}
+use Rattle.std.proofs.Common.{◌≡◌, ◌∙◌, true, false, rules}
 use borrow.Author.Tests.{tests}
 use Rattle.std.proofs.lemmas.Iterator.{first_from_Range}
 use Rattle.layout.specs.Entries.{entry_at}
@@ -10,4 +10,4 @@ use Rattle.reading.proofs.lookup.find_entry.Goals as goal
 pub returns : goal.returns
 returns c =
     let named = is_named (entry_at c.args.directory.now.bytes) (field_of c.args.name.now) in
-    lowest-found named c.args.directory.now.len c.find.result (first_from_Range _ _ _ c.find.result (λ e. named e ≡ true) (λ e. named e ≡ false) c.find.ensures.ran (λ x q k. search (rules, tests)) (λ x q k. search (rules, tests)))
+    search rules ∙ lowest-found named c.args.directory.now.len c.find.result (first_from_Range _ _ _ c.find.result (λ e. named e ≡ true) (λ e. named e ≡ false) c.find.ensures.ran (λ x q k. search (rules, tests)) (λ x q k. search (rules, tests)))
