@@ -1,4 +1,5 @@
--- One block more, and all of them.
+-- One block more, and all of them. What the block holds is found by a search, so that a body that puts another block fails at that equation,
+-- and not for the name of a call.
 use Rattle.std.proofs.Common.{◌≡◌, ◌+◌, ◌*◌, [], ◌∷◌, ◌++◌, length, drop, sym, ap, ◌∙◌, arith, rules}
 use Rattle.std.proofs.lemmas.Slice.{overwrites}
 use Rattle.std.proofs.lemmas.List.{length_push}

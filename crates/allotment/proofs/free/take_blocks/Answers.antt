@@ -1,4 +1,5 @@
--- One block more, and all of them.
+-- One block more, and all of them. What is answered is found by a search, so that a body that answers other numbers fails at that equation,
+-- and not for the name of a call.
 use Rattle.std.proofs.Common.{◌≡◌, ℕ, ◌-◌, ◌++◌, replicate, sym, ap, ◌∙◌, arith, rules}
 use Rattle.std.proofs.lemmas.Grind.{common_steps}
 use Rattle.std.proofs.lemmas.List.{length-take}

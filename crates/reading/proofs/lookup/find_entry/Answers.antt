@@ -1,4 +1,5 @@
--- The first number that passes the test.
+-- The first number that passes the test is what is answered: by a search, so that a body that answers another number fails at that equation,
+-- and not for the name of a call.
 use Rattle.std.proofs.Common.{◌≡◌, ◌∙◌, true, false, rules}
 use borrow.Author.Tests.{tests}
 use Rattle.std.proofs.lemmas.Iterator.{first_from_Range}
