@@ -1,10 +1,24 @@
 -- The name in a name field, and the zeros behind it.
-use Rattle.std.proofs.Common.{◌≡◌, ℕ, ◌-◌, true, not, eqb, List, [], ◌∷◌, ◌++◌, length, take, drop, replicate, refl, ap, ◌∙◌}
+use Rattle.std.proofs.Common.{◌≡◌, ℕ, ◌-◌, ◌≤◌, true, cond, not, eqb, List, [], ◌∷◌, ◌++◌, length, take, drop, replicate, Option, Some, None, refl, ap, ◌∙◌, ⊎_elim, arith}
 use Rattle.std.proofs.lemmas.List.{take-append-drop, length-drop, length-take-le}
 use Rattle.std.proofs.lemmas.List.Sums.{prefix_len-le-length}
-use Rattle.std.proofs.lemmas.Bool.{and_parts, eqb-true}
-use Rattle.std.specs.List.{position_or_len}
+use Rattle.std.proofs.lemmas.Bool.{and_parts, eqb-true, cases_lt, lt-ltb, le-ltb}
+use Rattle.std.specs.Prelude.{unwrap_or}
+use Rattle.std.specs.List.{position, position_or_len}
 use Rattle.layout.specs.Names.{up_to_zero, all_zero}
+
+-- the place of the first 0, or else the length, is how long the name is; for other crates, as here the check finds it
+pub name_ends : (xs : List ℕ) (found : Option ℕ) (n : ℕ) → found ≡ position (λ x. eqb x 0) xs → n ≡ unwrap_or found (length xs) → n ≡ position_or_len (λ x. eqb x 0) xs
+name_ends xs found n is told =
+    let k = position_or_len (λ x. eqb x 0) xs in
+    let most : k ≤ length xs = prefix_len-le-length (λ x. not (eqb x 0)) xs in
+    let test = ap (λ o. unwrap_or o (length xs)) is in
+    ⊎_elim
+    (λ within. told ∙ test ∙ ap (λ b. unwrap_or (cond b (Some k) None) (length xs)) (lt-ltb k (length xs) within))
+    (λ past.
+    let whole : length xs ≡ k = omega arith in
+    told ∙ test ∙ ap (λ b. unwrap_or (cond b (Some k) None) (length xs)) (le-ltb k (length xs) past) ∙ whole)
+    (cases_lt k (length xs))
 
 zeros_are : (xs : List ℕ) → all_zero xs ≡ true → xs ≡ replicate (length xs) 0
 zeros_are [] e = refl
